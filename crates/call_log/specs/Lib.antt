@@ -1,0 +1,5 @@
+pub mod Call
+pub mod Body
+pub mod Grammar
+pub mod View
+pub mod Put

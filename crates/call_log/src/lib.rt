@@ -1,0 +1,23 @@
+//! The log of calls: its bytes are read once, and its records are lent from them. Records are put behind one
+//! another in the same form.
+#![tactic(auto)]
+
+mod body;
+mod call;
+mod decode;
+mod fault;
+mod head;
+mod item;
+mod laws;
+mod log;
+mod put;
+
+pub use call::Call;
+pub use fault::{LogEnd, LogFault, LogKind};
+pub use item::Item;
+pub use laws::{one_reading, puts_read_back};
+pub use log::{Log, read_log};
+pub use put::{put_call, put_end, put_header};
+
+#[cfg(test)]
+mod tests;

@@ -1,0 +1,4 @@
+pub mod Effects
+pub mod Built
+pub mod Machine
+pub mod Act

@@ -1,0 +1,12 @@
+pub mod Maps
+pub mod CodeMaps
+pub mod Calls
+pub mod Replies
+pub mod Checked
+pub mod Sized
+pub mod Limits
+pub mod Pasts
+pub mod Named
+pub mod Listed
+pub mod Frozen
+pub mod Unchanged

@@ -1,0 +1,48 @@
+-- Where a command has an output for its input and no fault is counted, it is written whole, or memory runs out.
+use Rattle.std.proofs.Common.{◌≡◌, ℕ, ◌<◌, ◌≤◌, true, false, List, length, Option, Some, None, refl, sym, ap, subst, ◌∙◌, ◌⊎◌, inl, inr, arith}
+use Rattle.std.specs.Prelude.{IfSome}
+use Rattle.player.specs.declared.command.Command.{Command}
+use Rattle.player.specs.declared.command.Command.TheVariants.{Replay}
+use Rattle.player.specs.declared.status.Status.{Status}
+use Rattle.player.specs.declared.status.Status.TheVariants.{Done, Usage, ReadFault, WriteFault, BadLog, TooLong, NoMemory, NotBuilt}
+use Rattle.call_log.specs.Grammar.{Frame, IsLog, IsFault, calls_of}
+use Rattle.call_log.proofs.OneReading.{one_log, no_fault}
+use Rattle.core_machine.specs.Built.{AllBuilt, IsFirstUnbuilt}
+use Rattle.player.specs.Outcome.{Answers, IsPlayedLog, FirstUnbuilt, Refuses, WasLeft, Outcome, OutcomeOf, Accepted}
+
+told_is : (left : Option (List ℕ)) (all bytes : List ℕ) → left ≡ Some all → WasLeft left bytes → bytes ≡ all
+told_is left all bytes e h = subst (λ (o : Option (List ℕ)). WasLeft o bytes) e h
+
+told_longer : (left : Option (List ℕ)) (all : List ℕ) → left ≡ Some all → IfSome left (λ l. 67108864 < length l) → 67108864 < length all
+told_longer left all e h = subst (λ (o : Option (List ℕ)). IfSome o (λ l. 67108864 < length l)) e h
+
+not_both : (bytes : List ℕ) (frames : List Frame) (n kind : ℕ) → IsPlayedLog bytes frames → FirstUnbuilt bytes n kind → ⊥
+not_both bytes frames n kind played first =
+    let same = one_log bytes first.frames frames first.log played.log in
+    let here = subst (λ (fs : List Frame). IsFirstUnbuilt (calls_of fs) n) same first.first in
+    let e = sym here.here ∙ played.built n in
+    absurd cc
+
+-- bytes for which a command has an output aren't refused
+refused_not : (c : Command) (bytes out : List ℕ) (s : Status) → Answers c bytes out → Refuses c bytes s → ⊥
+refused_not Replay bytes out (BadLog fault) a r = no_fault bytes a.0 fault a.1.log r
+refused_not Replay bytes out (NotBuilt n kind) a r = not_both bytes a.0 n kind a.1 r
+refused_not Replay bytes out _ a r = absurd r
+
+not_refused : (c : Command) (left : Option (List ℕ)) (s : Status) (bytes : List ℕ) → Accepted c left → WasLeft left bytes → Refuses c bytes s → ⊥
+not_refused c left s bytes acc was r =
+    refused_not c acc.bytes acc.out s acc.answers (subst (λ (b : List ℕ). Refuses c b s) (told_is left acc.bytes bytes acc.told was) r)
+
+pub ends : (c : Command) (s : Status) (left old new : Option (List ℕ)) → Accepted c left → Outcome c left old s new → (s ≡ ReadFault → ⊥) → (s ≡ WriteFault → ⊥) → (s ≡ Done) ⊎ (s ≡ NoMemory)
+ends c Done left old new acc h a b = inl refl
+ends c NoMemory left old new acc h a b = inr refl
+ends c Usage left old new acc h a b = absurd h
+ends c ReadFault left old new acc h a b = absurd (a refl)
+ends c WriteFault left old new acc h a b = absurd (b refl)
+ends c TooLong left old new acc h a b = let long = told_longer left acc.bytes acc.told h.0 in absurd (omega (arith, acc.short))
+ends c (BadLog fault) left old new acc h a b = absurd (not_refused c left (BadLog fault) h.0 acc h.1 h.2.refuses)
+ends c (NotBuilt n kind) left old new acc h a b = absurd (not_refused c left (NotBuilt n kind) h.0 acc h.1 h.2.refuses)
+
+-- the same, by the words
+pub words_end : (o : Option Command) (c : Command) (s : Status) (left old new : Option (List ℕ)) → o ≡ Some c → Accepted c left → OutcomeOf o left old s new → (s ≡ ReadFault → ⊥) → (s ≡ WriteFault → ⊥) → (s ≡ Done) ⊎ (s ≡ NoMemory)
+words_end o c s left old new e acc h a b = ends c s left old new acc (subst (λ (x : Option Command). OutcomeOf x left old s new) e h) a b

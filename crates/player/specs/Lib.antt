@@ -1,0 +1,4 @@
+pub mod Number
+pub mod StatusText
+pub mod Words
+pub mod Outcome

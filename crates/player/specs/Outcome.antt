@@ -1,0 +1,127 @@
+-- What each status says of the input and the output.
+use Rattle.std.specs.Prelude.{◌≡◌, ℕ, ◌<◌, ◌≤◌, List, [], length, Option, Some, None, IfSome, ◌⊎◌}
+use Rattle.std.specs.Option.{option_map}
+use Rattle.dx_io.specs.Told.{Appends, AppendsFront}
+use Rattle.player.specs.declared.command.Command.{Command}
+use Rattle.player.specs.declared.command.Command.TheVariants.{Replay}
+use Rattle.player.specs.declared.status.Status.{Status}
+use Rattle.player.specs.declared.status.Status.TheVariants.{Done, Usage, ReadFault, WriteFault, BadLog, TooLong, NoMemory, NotBuilt}
+use Rattle.player.specs.declared.run.Unsaid.{Unsaid}
+use Rattle.player.specs.declared.run.Unsaid.TheVariants.{Fault}
+use Rattle.player.specs.declared.run.Unsaid.TheVariants as unsaid
+use Rattle.call_log.specs.Call.{Issued}
+use Rattle.call_log.specs.Grammar.{Frame, IsLog, IsFault, calls_of, frame_no}
+use Rattle.d3d_model.specs.ReplyText.{text, none_pending}
+use Rattle.core_machine.specs.Built.{AllBuilt, IsFirstUnbuilt}
+
+-- ---- what a command makes of its input
+
+-- a log of these records, each call of which is played
+pub record IsPlayedLog (bytes : List ℕ) (frames : List Frame) : Type 0 where
+  pub log : IsLog bytes frames
+  pub built : AllBuilt (calls_of frames)
+
+-- the whole output of a command for these bytes
+abbrev pub Answers : Command → List ℕ → List ℕ → Type 0
+Answers Replay bytes out = (frames : List Frame) × IsPlayedLog bytes frames × (out ≡ text (calls_of frames) none_pending)
+
+-- call n of these records is of a kind
+abbrev pub IsKindOf : List Frame → ℕ → ℕ → Type 0
+IsKindOf frames n kind = IfSome (option_map (λ f. f.kind) (frame_no frames n)) (λ k. kind ≡ k)
+
+-- the first call that isn't played, with its kind
+pub record FirstUnbuilt (bytes : List ℕ) (n kind : ℕ) : Type 0 where
+  pub frames : List Frame
+  pub log : IsLog bytes frames
+  pub first : IsFirstUnbuilt (calls_of frames) n
+  pub names : IsKindOf frames n kind
+
+-- why a command writes nothing for these bytes
+abbrev pub Refuses : Command → List ℕ → Status → Type 0
+Refuses Replay bytes (BadLog fault) = IsFault bytes fault
+Refuses Replay bytes (NotBuilt n kind) = FirstUnbuilt bytes n kind
+Refuses Replay bytes _ = ⊥
+
+-- ---- what was written
+
+-- nothing
+abbrev pub Silent : Option (List ℕ) → Option (List ℕ) → Type 0
+Silent old new = Appends old [] new
+
+-- the whole output of a command
+pub record WritesAll (c : Command) (bytes : List ℕ) (old new : Option (List ℕ)) : Type 0 where
+  pub out : List ℕ
+  pub answers : Answers c bytes out
+  pub written : Appends old out new
+
+-- a front of it
+pub record WritesFront (c : Command) (bytes : List ℕ) (old new : Option (List ℕ)) : Type 0 where
+  pub out : List ℕ
+  pub answers : Answers c bytes out
+  pub written : AppendsFront old out new
+
+-- nothing, for a reason that these bytes give
+pub record Declines (c : Command) (bytes : List ℕ) (s : Status) (old new : Option (List ℕ)) : Type 0 where
+  pub refuses : Refuses c bytes s
+  pub silent : Silent old new
+
+-- what came of a command on these bytes
+abbrev pub CameOf : Command → List ℕ → Option (List ℕ) → Status → Option (List ℕ) → Type 0
+CameOf c bytes old Done new = WritesAll c bytes old new
+CameOf c bytes old WriteFault new = WritesFront c bytes old new
+CameOf c bytes old NoMemory new = Silent old new ⊎ WritesFront c bytes old new
+CameOf c bytes old (BadLog fault) new = Declines c bytes (BadLog fault) old new
+CameOf c bytes old (NotBuilt n kind) new = Declines c bytes (NotBuilt n kind) old new
+CameOf c bytes old Usage new = ⊥
+CameOf c bytes old ReadFault new = ⊥
+CameOf c bytes old TooLong new = ⊥
+
+-- these bytes are what the source had left, where it tells that
+abbrev pub WasLeft : Option (List ℕ) → List ℕ → Type 0
+WasLeft left bytes = IfSome left (λ all. bytes ≡ all)
+
+-- something holds of the bytes that were read
+abbrev pub OfInput : Option (List ℕ) → (List ℕ → Type 0) → Type 0
+OfInput left P = (bytes : List ℕ) × WasLeft left bytes × P bytes
+
+-- The outcome of a command, by its status.
+abbrev pub Outcome : Command → Option (List ℕ) → Option (List ℕ) → Status → Option (List ℕ) → Type 0
+Outcome c left old Usage new = ⊥
+Outcome c left old ReadFault new = Silent old new
+Outcome c left old TooLong new = IfSome left (λ all. 67108864 < length all) × Silent old new
+Outcome c left old NoMemory new = Silent old new ⊎ OfInput left (λ bytes. WritesFront c bytes old new)
+Outcome c left old Done new = OfInput left (λ bytes. WritesAll c bytes old new)
+Outcome c left old WriteFault new = OfInput left (λ bytes. WritesFront c bytes old new)
+Outcome c left old (BadLog fault) new = OfInput left (λ bytes. Declines c bytes (BadLog fault) old new)
+Outcome c left old (NotBuilt n kind) new = OfInput left (λ bytes. Declines c bytes (NotBuilt n kind) old new)
+
+-- The outcome of some words: words that are no command are `Usage` and nothing else.
+abbrev pub OutcomeOf : Option Command → Option (List ℕ) → Option (List ℕ) → Status → Option (List ℕ) → Type 0
+OutcomeOf None left old s new = (s ≡ Usage) × Silent old new
+OutcomeOf (Some c) left old s new = Outcome c left old s new
+
+-- an input of at most 67,108,864 bytes for which a command has an output
+pub record Accepted (c : Command) (left : Option (List ℕ)) : Type 0 where
+  pub bytes : List ℕ
+  pub told : left ≡ Some bytes
+  pub short : length bytes ≤ 67108864
+  pub out : List ℕ
+  pub answers : Answers c bytes out
+
+-- ---- parts of a run
+
+-- what a run of these calls wrote: at the end their whole text, and else some front of it
+abbrev pub Plays : List Issued → Option (List ℕ) → Status → Option (List ℕ) → Type 0
+Plays calls old Done new = Appends old (text calls none_pending) new
+Plays calls old WriteFault new = AppendsFront old (text calls none_pending) new
+Plays calls old NoMemory new = AppendsFront old (text calls none_pending) new
+Plays calls old _ new = ⊥
+
+-- the status names call n of these records with its kind
+abbrev pub IsNotBuilt : List Frame → ℕ → Status → Type 0
+IsNotBuilt frames n (NotBuilt m kind) = (m ≡ n) × IsKindOf frames n kind
+IsNotBuilt frames n _ = ⊥
+
+abbrev pub status_for : Unsaid → Status
+status_for Fault = WriteFault
+status_for unsaid.NoMemory = NoMemory

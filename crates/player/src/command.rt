@@ -1,0 +1,22 @@
+ghost use Rattle.std.specs.Prelude.{◌≡◌};
+ghost use Rattle.player.specs.Words.{command_of};
+
+/// What the words of a command line ask for.
+#[derive(Clone, Copy, Debug, PartialEq, Eq)]
+pub(crate) enum Command {
+    /// Play a log, and write the lines of its replies.
+    Replay,
+}
+
+/// The command that the words are, each word of its own: none for all others.
+pub(crate) fn command_of(words: &[String]) -> Option<Command>
+    ensures { result ≡ command_of words.now }
+{
+    match words {
+        [word] => match word.as_str() {
+            "replay" => Some(Command::Replay),
+            _ => None,
+        },
+        _ => None,
+    }
+}

@@ -1,0 +1,125 @@
+ghost use Rattle.std.specs.Prelude.{◌≡◌, ◌≤◌, ◌⊎◌, ℕ, List, length, Some};
+ghost use Rattle.dx_io.specs.Faults.{Rose, IsSteady};
+ghost use Rattle.call_log.specs.Grammar.{IsLog};
+ghost use Rattle.player.specs.declared.command.Command as command;
+ghost use Rattle.player.specs.Words.{command_of};
+ghost use Rattle.player.specs.Outcome.{OutcomeOf, Outcome, CameOf, Accepted, IsNotBuilt};
+
+use crate::command::{Command, command_of};
+use crate::run::play;
+use crate::status::Status;
+use call_log::{Log, LogEnd, read_log};
+use core_machine::first_unbuilt;
+use dx_io::{ReadEnd, Sink, Source, read_all};
+use dx_types::CallNo;
+use std::alloc::Global;
+
+/// The longest input, in bytes.
+const MAX_INPUT: u64 = 67_108_864;
+
+/// Does what the words of a command line ask for, which stand here without the program's name. `replay`
+/// reads a log from the source to its end, plays it and writes the line of each reply as it comes. The input
+/// is at most 67,108,864 bytes.
+pub fn replay<S: Source, K: Sink>(
+    alloc: Global,
+    words: &[String],
+    log: &mut S,
+    out: &mut K,
+) -> Status
+    ensures outcome { OutcomeOf (command_of words.now) (S.left log.old) (K.held out.old) result (K.held out.new) }
+    ensures read_fault { result ≡ Status.ReadFault → Rose (S.faults log.old) (S.faults log.new) }
+    ensures write_fault { result ≡ Status.WriteFault → Rose (K.faults out.old) (K.faults out.new) }
+    ensures read_later { S.faults log.old ≤ S.faults log.new }
+    ensures write_later { K.faults out.old ≤ K.faults out.new }
+
+    // Each good input is answered.
+    ensures complete { (c : command.Command) → command_of words.now ≡ Some c → Accepted c (S.left log.old)
+        → IsSteady (S.faults log.old) (S.faults log.new) → IsSteady (K.faults out.old) (K.faults out.new)
+        → (result ≡ Status.Done) ⊎ (result ≡ Status.NoMemory) }
+{
+    run_words(alloc, words, log, out)
+}
+
+fn run_words<S: Source, K: Sink>(
+    alloc: Global,
+    words: &[String],
+    log: &mut S,
+    out: &mut K,
+) -> Status
+    ensures outcome { OutcomeOf (command_of words.now) (S.left log.old) (K.held out.old) result (K.held out.new) }
+    ensures read_fault { result ≡ Status.ReadFault → Rose (S.faults log.old) (S.faults log.new) }
+    ensures write_fault { result ≡ Status.WriteFault → Rose (K.faults out.old) (K.faults out.new) }
+    ensures read_later { S.faults log.old ≤ S.faults log.new }
+    ensures write_later { K.faults out.old ≤ K.faults out.new }
+{
+    match command_of(words) {
+        None => Status::Usage,
+        Some(command) => run_command(alloc, command, log, out),
+    }
+}
+
+fn run_command<S: Source, K: Sink>(
+    alloc: Global,
+    command: Command,
+    log: &mut S,
+    out: &mut K,
+) -> Status
+    ensures outcome { Outcome command (S.left log.old) (K.held out.old) result (K.held out.new) }
+    ensures read_fault { result ≡ Status.ReadFault → Rose (S.faults log.old) (S.faults log.new) }
+    ensures write_fault { result ≡ Status.WriteFault → Rose (K.faults out.old) (K.faults out.new) }
+    ensures read_later { S.faults log.old ≤ S.faults log.new }
+    ensures write_later { K.faults out.old ≤ K.faults out.new }
+{
+    match read_all(alloc, log, MAX_INPUT) {
+        Ok(bytes) => answer(alloc, command, &bytes, out),
+        Err(ReadEnd::Fault) => Status::ReadFault,
+        Err(ReadEnd::TooLong) => Status::TooLong,
+        Err(ReadEnd::NoMemory) => Status::NoMemory,
+    }
+}
+
+// Writes what a command makes of an input.
+fn answer<K: Sink>(alloc: Global, command: Command, bytes: &[u8], out: &mut K) -> Status
+    requires { length bytes.now ≤ 67108864 }
+    ensures outcome { CameOf command bytes.now (K.held out.old) result (K.held out.new) }
+    ensures write_fault { result ≡ Status.WriteFault → Rose (K.faults out.old) (K.faults out.new) }
+    ensures write_later { K.faults out.old ≤ K.faults out.new }
+{
+    match command {
+        Command::Replay => replay_bytes(alloc, bytes, out),
+    }
+}
+
+fn replay_bytes<K: Sink>(alloc: Global, bytes: &[u8], out: &mut K) -> Status
+    requires { length bytes.now ≤ 67108864 }
+    ensures outcome { CameOf Command.Replay bytes.now (K.held out.old) result (K.held out.new) }
+    ensures write_fault { result ≡ Status.WriteFault → Rose (K.faults out.old) (K.faults out.new) }
+    ensures write_later { K.faults out.old ≤ K.faults out.new }
+{
+    match read_log(alloc, bytes) {
+        Ok(log) => replay_log(alloc, &log, out),
+        Err(LogEnd::Bad(fault)) => Status::BadLog { fault },
+        Err(LogEnd::NoMemory) => Status::NoMemory,
+    }
+}
+
+fn replay_log<K: Sink>(alloc: Global, log: &Log<'_>, out: &mut K) -> Status
+    ensures outcome { (bytes : List ℕ) → IsLog bytes log.now.frames → CameOf Command.Replay bytes (K.held out.old) result (K.held out.new) }
+    ensures write_fault { result ≡ Status.WriteFault → Rose (K.faults out.old) (K.faults out.new) }
+    ensures write_later { K.faults out.old ≤ K.faults out.new }
+{
+    match first_unbuilt(alloc, log) {
+        Ok(None) => play(alloc, log, out),
+        Ok(Some(n)) => not_built(log, n),
+        Err(_) => Status::NoMemory,
+    }
+}
+
+fn not_built(log: &Log<'_>, n: CallNo) -> Status
+    ensures { IsNotBuilt log.now.frames n result }
+{
+    match log.item(n) {
+        Some(item) => Status::NotBuilt { n, kind: item.kind },
+        None => Status::NotBuilt { n, kind: 0 },
+    }
+}

@@ -1,0 +1,10 @@
+pub mod Trees
+pub mod Putting
+pub mod Nested
+pub mod Spelling
+pub mod Operands
+pub mod Statements
+pub mod Counting
+pub mod Fitting
+pub mod Lengths
+mod Examples

@@ -1,0 +1,14 @@
+pub mod Body
+pub mod Nesting
+pub mod Words
+pub mod Opcodes
+pub mod Items
+pub mod Fields
+pub mod Faults
+pub mod Shader
+pub mod Arithmetic
+pub mod Invocation
+pub mod Dispatch
+pub mod Good
+pub mod Lengths
+pub mod Worked
