@@ -1,0 +1,7 @@
+//! Runs of the top call: logs with the output and the status that they must have.
+#![tactic(auto)]
+
+#[cfg(test)]
+mod cases;
+#[cfg(test)]
+mod replays;
