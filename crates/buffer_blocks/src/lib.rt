@@ -1,0 +1,10 @@
+//! Blocks of device memory, which lend their bytes in parts.
+#![tactic(auto)]
+
+mod block;
+mod bytes;
+
+pub use block::Block;
+
+#[cfg(test)]
+mod tests;
