@@ -1,0 +1,19 @@
+use Rattle.std.proofs.Common.{◌&&◌, sym, ◌∙◌}
+use Rattle.vk_types.specs.Hazards.{touches, same_stage, has_write}
+use Rattle.vk_types.proofs.Scan.{scan_hit, scan_miss, scan_none}
+use Rattle.barrier_track.proofs.stages.writes_at.Goals as goal
+use Rattle.barrier_track.proofs.stages.writes_at.Goals.{in-Some+else-writes_there, in_default}
+
+pub returns-then-writes_there : goal.returns-then-writes_there
+returns-then-writes_there c =
+    sym (scan_hit (λ t. same_stage t.stage c.args.stage && has_write t.access) (touches c.args.c.now) c.loop-i.i c.in-Some.t
+    (sym c.touch_at.ensures ∙ c.in-Some.is) (sym c.writes_there.ensures ∙ c.if-writes_there.true))
+
+pub loop-i-preserved : goal.loop-i-preserved
+loop-i-preserved c =
+    elim c.match-touch_at.branch [
+      | in-Some+else-writes_there w ↦
+          scan_miss (λ t. same_stage t.stage c.args.stage && has_write t.access) (touches c.args.c.now) c.loop-i.i w.in-Some.t
+          (sym c.touch_at.ensures ∙ w.in-Some.is) (sym w.writes_there.ensures ∙ w.if-writes_there.false) c.loop-i.invariant
+      | in_default w ↦ scan_none (λ t. same_stage t.stage c.args.stage && has_write t.access) (touches c.args.c.now) c.loop-i.i (sym c.touch_at.ensures ∙ w.in_default.is) c.loop-i.invariant
+    ]

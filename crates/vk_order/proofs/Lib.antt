@@ -1,0 +1,2 @@
+mod AllScan
+mod Open

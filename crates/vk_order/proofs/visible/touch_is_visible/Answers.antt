@@ -1,0 +1,22 @@
+use Rattle.std.proofs.Common.{◌≡◌, true, false, sym, ◌∙◌, arith}
+use Rattle.vk_types.specs.Hazards.{touches}
+use Rattle.vk_types.specs.Covered.{commands_visible}
+use Rattle.vk_order.proofs.AllScan.{all_hit, all_miss, all_none}
+use Rattle.vk_order.proofs.visible.touch_is_visible.Goals as goal
+use Rattle.vk_order.proofs.visible.touch_is_visible.Goals.{in-Some+else-not-pair_is_visible, in_default}
+
+pub returns-then-not-pair_is_visible : goal.returns-then-not-pair_is_visible
+returns-then-not-pair_is_visible c =
+    let fails : c.pair_is_visible.result ≡ false = grind arith in
+    sym (all_hit (commands_visible c.args.mid.now c.args.c.now c.args.d.now c.args.t.now) (touches c.args.d.now) c.loop-i.i c.in-Some.u
+    (sym c.touch_at.ensures ∙ c.in-Some.is) (sym c.pair_is_visible.ensures ∙ fails))
+
+pub loop-i-preserved : goal.loop-i-preserved
+loop-i-preserved c =
+    elim c.match-touch_at.branch [
+      | in-Some+else-not-pair_is_visible w ↦
+          let passes : w.pair_is_visible.result ≡ true = grind arith in
+          all_miss (commands_visible c.args.mid.now c.args.c.now c.args.d.now c.args.t.now) (touches c.args.d.now) c.loop-i.i w.in-Some.u
+          (sym c.touch_at.ensures ∙ w.in-Some.is) (sym w.pair_is_visible.ensures ∙ passes) c.loop-i.invariant
+      | in_default w ↦ all_none (commands_visible c.args.mid.now c.args.c.now c.args.d.now c.args.t.now) (touches c.args.d.now) c.loop-i.i (sym c.touch_at.ensures ∙ w.in_default.is) c.loop-i.invariant
+    ]

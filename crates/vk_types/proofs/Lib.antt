@@ -1,0 +1,9 @@
+pub mod Lists
+pub mod Reorder
+pub mod Local
+pub mod Acts
+pub mod Examples
+pub mod Law
+pub mod Order
+pub mod Bridge
+pub mod Scan
