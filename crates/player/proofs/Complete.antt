@@ -1,13 +1,14 @@
 -- Where a command has an output for its input and no fault is counted, it is written whole, or memory runs out.
-use Rattle.std.proofs.Common.{◌≡◌, ℕ, ◌<◌, ◌≤◌, true, false, List, length, Option, Some, None, refl, sym, ap, subst, ◌∙◌, ◌⊎◌, inl, inr, arith}
+use Rattle.std.proofs.Common.{◌≡◌, ℕ, ◌<◌, List, length, Option, Some, refl, sym, subst, ◌∙◌, ◌⊎◌, inl, inr, arith}
 use Rattle.std.specs.Prelude.{IfSome}
 use Rattle.player.specs.declared.command.Command.{Command}
-use Rattle.player.specs.declared.command.Command.TheVariants.{Replay}
+use Rattle.player.specs.declared.command.Command.TheVariants as commands
 use Rattle.player.specs.declared.status.Status.{Status}
-use Rattle.player.specs.declared.status.Status.TheVariants.{Done, Usage, ReadFault, WriteFault, BadLog, TooLong, NoMemory, NotBuilt}
-use Rattle.call_log.specs.Grammar.{Frame, IsLog, IsFault, calls_of}
+use Rattle.player.specs.declared.status.Status.TheVariants.{Done, Usage, ReadFault, WriteFault, BadLog, TooLong, NoMemory, BadText, NotBuilt}
+use Rattle.call_log.specs.Grammar.{Frame, calls_of}
 use Rattle.call_log.proofs.OneReading.{one_log, no_fault}
-use Rattle.core_machine.specs.Built.{AllBuilt, IsFirstUnbuilt}
+use Rattle.log_text.proofs.Spelling.{no_bad_line}
+use Rattle.core_machine.specs.Built.{IsFirstUnbuilt}
 use Rattle.player.specs.Outcome.{Answers, IsPlayedLog, FirstUnbuilt, Refuses, WasLeft, Outcome, OutcomeOf, Accepted}
 
 told_is : (left : Option (List ℕ)) (all bytes : List ℕ) → left ≡ Some all → WasLeft left bytes → bytes ≡ all
@@ -25,9 +26,13 @@ not_both bytes frames n kind played first =
 
 -- bytes for which a command has an output aren't refused
 refused_not : (c : Command) (bytes out : List ℕ) (s : Status) → Answers c bytes out → Refuses c bytes s → ⊥
-refused_not Replay bytes out (BadLog fault) a r = no_fault bytes a.0 fault a.1.log r
-refused_not Replay bytes out (NotBuilt n kind) a r = not_both bytes a.0 n kind a.1 r
-refused_not Replay bytes out _ a r = absurd r
+refused_not commands.Replay bytes out (BadLog fault) a r = no_fault bytes a.0 fault a.1.log r
+refused_not commands.Replay bytes out (NotBuilt n kind) a r = not_both bytes a.0 n kind a.1 r
+refused_not commands.Replay bytes out _ a r = absurd r
+refused_not commands.List bytes out (BadLog fault) a r = no_fault bytes a.0 fault a.1 r
+refused_not commands.List bytes out _ a r = absurd r
+refused_not commands.Asm bytes out (BadText line) a r = no_bad_line bytes out line a r
+refused_not commands.Asm bytes out _ a r = absurd r
 
 not_refused : (c : Command) (left : Option (List ℕ)) (s : Status) (bytes : List ℕ) → Accepted c left → WasLeft left bytes → Refuses c bytes s → ⊥
 not_refused c left s bytes acc was r =
@@ -41,6 +46,7 @@ ends c ReadFault left old new acc h a b = absurd (a refl)
 ends c WriteFault left old new acc h a b = absurd (b refl)
 ends c TooLong left old new acc h a b = let long = told_longer left acc.bytes acc.told h.0 in absurd (omega (arith, acc.short))
 ends c (BadLog fault) left old new acc h a b = absurd (not_refused c left (BadLog fault) h.0 acc h.1 h.2.refuses)
+ends c (BadText line) left old new acc h a b = absurd (not_refused c left (BadText line) h.0 acc h.1 h.2.refuses)
 ends c (NotBuilt n kind) left old new acc h a b = absurd (not_refused c left (NotBuilt n kind) h.0 acc h.1 h.2.refuses)
 
 -- the same, by the words

@@ -3,14 +3,15 @@ use Rattle.std.specs.Prelude.{◌≡◌, ℕ, ◌<◌, ◌≤◌, List, [], leng
 use Rattle.std.specs.Option.{option_map}
 use Rattle.dx_io.specs.Told.{Appends, AppendsFront}
 use Rattle.player.specs.declared.command.Command.{Command}
-use Rattle.player.specs.declared.command.Command.TheVariants.{Replay}
+use Rattle.player.specs.declared.command.Command.TheVariants as commands
 use Rattle.player.specs.declared.status.Status.{Status}
-use Rattle.player.specs.declared.status.Status.TheVariants.{Done, Usage, ReadFault, WriteFault, BadLog, TooLong, NoMemory, NotBuilt}
+use Rattle.player.specs.declared.status.Status.TheVariants.{Done, Usage, ReadFault, WriteFault, BadLog, TooLong, NoMemory, BadText, NotBuilt}
 use Rattle.player.specs.declared.run.Unsaid.{Unsaid}
 use Rattle.player.specs.declared.run.Unsaid.TheVariants.{Fault}
 use Rattle.player.specs.declared.run.Unsaid.TheVariants as unsaid
 use Rattle.call_log.specs.Call.{Issued}
 use Rattle.call_log.specs.Grammar.{Frame, IsLog, IsFault, calls_of, frame_no}
+use Rattle.log_text.specs.LogText.{LogText, IsFirstBad, text_of}
 use Rattle.d3d_model.specs.ReplyText.{text, none_pending}
 use Rattle.core_machine.specs.Built.{AllBuilt, IsFirstUnbuilt}
 
@@ -23,7 +24,9 @@ pub record IsPlayedLog (bytes : List ℕ) (frames : List Frame) : Type 0 where
 
 -- the whole output of a command for these bytes
 abbrev pub Answers : Command → List ℕ → List ℕ → Type 0
-Answers Replay bytes out = (frames : List Frame) × IsPlayedLog bytes frames × (out ≡ text (calls_of frames) none_pending)
+Answers commands.Replay bytes out = (frames : List Frame) × IsPlayedLog bytes frames × (out ≡ text (calls_of frames) none_pending)
+Answers commands.List bytes out = (frames : List Frame) × IsLog bytes frames × (out ≡ text_of frames)
+Answers commands.Asm bytes out = LogText bytes out
 
 -- call n of these records is of a kind
 abbrev pub IsKindOf : List Frame → ℕ → ℕ → Type 0
@@ -38,9 +41,13 @@ pub record FirstUnbuilt (bytes : List ℕ) (n kind : ℕ) : Type 0 where
 
 -- why a command writes nothing for these bytes
 abbrev pub Refuses : Command → List ℕ → Status → Type 0
-Refuses Replay bytes (BadLog fault) = IsFault bytes fault
-Refuses Replay bytes (NotBuilt n kind) = FirstUnbuilt bytes n kind
-Refuses Replay bytes _ = ⊥
+Refuses commands.Replay bytes (BadLog fault) = IsFault bytes fault
+Refuses commands.Replay bytes (NotBuilt n kind) = FirstUnbuilt bytes n kind
+Refuses commands.Replay bytes _ = ⊥
+Refuses commands.List bytes (BadLog fault) = IsFault bytes fault
+Refuses commands.List bytes _ = ⊥
+Refuses commands.Asm bytes (BadText line) = IsFirstBad bytes line
+Refuses commands.Asm bytes _ = ⊥
 
 -- ---- what was written
 
@@ -71,6 +78,7 @@ CameOf c bytes old Done new = WritesAll c bytes old new
 CameOf c bytes old WriteFault new = WritesFront c bytes old new
 CameOf c bytes old NoMemory new = Silent old new ⊎ WritesFront c bytes old new
 CameOf c bytes old (BadLog fault) new = Declines c bytes (BadLog fault) old new
+CameOf c bytes old (BadText line) new = Declines c bytes (BadText line) old new
 CameOf c bytes old (NotBuilt n kind) new = Declines c bytes (NotBuilt n kind) old new
 CameOf c bytes old Usage new = ⊥
 CameOf c bytes old ReadFault new = ⊥
@@ -93,6 +101,7 @@ Outcome c left old NoMemory new = Silent old new ⊎ OfInput left (λ bytes. Wri
 Outcome c left old Done new = OfInput left (λ bytes. WritesAll c bytes old new)
 Outcome c left old WriteFault new = OfInput left (λ bytes. WritesFront c bytes old new)
 Outcome c left old (BadLog fault) new = OfInput left (λ bytes. Declines c bytes (BadLog fault) old new)
+Outcome c left old (BadText line) new = OfInput left (λ bytes. Declines c bytes (BadText line) old new)
 Outcome c left old (NotBuilt n kind) new = OfInput left (λ bytes. Declines c bytes (NotBuilt n kind) old new)
 
 -- The outcome of some words: words that are no command are `Usage` and nothing else.
@@ -121,6 +130,12 @@ Plays calls old _ new = ⊥
 abbrev pub IsNotBuilt : List Frame → ℕ → Status → Type 0
 IsNotBuilt frames n (NotBuilt m kind) = (m ≡ n) × IsKindOf frames n kind
 IsNotBuilt frames n _ = ⊥
+
+-- these bytes were written, or a front of them
+abbrev pub Writes : List ℕ → Option (List ℕ) → Status → Option (List ℕ) → Type 0
+Writes bytes old Done new = Appends old bytes new
+Writes bytes old WriteFault new = AppendsFront old bytes new
+Writes bytes old _ new = ⊥
 
 abbrev pub status_for : Unsaid → Status
 status_for Fault = WriteFault

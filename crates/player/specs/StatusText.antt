@@ -18,6 +18,9 @@ kind_name kinds.NoEnd = codes "NoEnd"
 abbrev pub bad_log_text : LogFault → List ℕ
 bad_log_text fault = kind_name fault.kind ++ (codes " at " ++ decimal fault.at)
 
+abbrev pub bad_text_text : ℕ → List ℕ
+bad_text_text line = codes "line " ++ decimal line
+
 abbrev pub not_built_text : ℕ → ℕ → List ℕ
 not_built_text n kind = codes "call " ++ (decimal n ++ (codes " of kind " ++ (decimal kind ++ codes " is not built")))
 
@@ -29,4 +32,5 @@ text_of statuses.WriteFault = codes "write fault"
 text_of (statuses.BadLog fault) = bad_log_text fault
 text_of statuses.TooLong = codes "longer than 67108864 bytes"
 text_of statuses.NoMemory = codes "no memory"
+text_of (statuses.BadText line) = bad_text_text line
 text_of (statuses.NotBuilt n kind) = not_built_text n kind

@@ -4,10 +4,14 @@ use Rattle.std.specs.Prelude.{String}
 use Rattle.std.specs.Global.{Global}
 use Rattle.std.specs.String.{string_bytes}
 use Rattle.player.specs.declared.command.Command.{Command}
-use Rattle.player.specs.declared.command.Command.TheVariants.{Replay}
+use Rattle.player.specs.declared.command.Command.TheVariants as commands
 
 abbrev pub command_by_word : List ℕ → Option Command
-command_by_word word = if bytes_eq word (codes "replay") then Some Replay else None
+command_by_word word =
+    if bytes_eq word (codes "replay") then Some commands.Replay
+    else if bytes_eq word (codes "list") then Some commands.List
+    else if bytes_eq word (codes "asm") then Some commands.Asm
+    else None
 
 -- the command that some words are
 abbrev pub command_of : List (String Global) → Option Command

@@ -6,6 +6,10 @@ ghost use Rattle.player.specs.Words.{command_of};
 pub(crate) enum Command {
     /// Play a log, and write the lines of its replies.
     Replay,
+    /// Write the text of a log.
+    List,
+    /// Write the log of a text.
+    Asm,
 }
 
 /// The command that the words are, each word of its own: none for all others.
@@ -15,6 +19,8 @@ pub(crate) fn command_of(words: &[String]) -> Option<Command>
     match words {
         [word] => match word.as_str() {
             "replay" => Some(Command::Replay),
+            "list" => Some(Command::List),
+            "asm" => Some(Command::Asm),
             _ => None,
         },
         _ => None,

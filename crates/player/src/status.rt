@@ -1,7 +1,7 @@
 ghost use Rattle.std.specs.Prelude.{◌≡◌, IfOk};
 ghost use Rattle.std.specs.String.{string_bytes};
 ghost use Rattle.player.specs.Number.{number_of};
-ghost use Rattle.player.specs.StatusText.{text_of, bad_log_text, not_built_text, kind_name};
+ghost use Rattle.player.specs.StatusText.{text_of, bad_log_text, bad_text_text, not_built_text, kind_name};
 
 use call_log::{LogFault, LogKind};
 use dx_types::CallNo;
@@ -24,6 +24,8 @@ pub enum Status {
     TooLong,
     /// Memory ran out.
     NoMemory,
+    /// The input is no text of a log: its first bad line, from 1.
+    BadText { line: u64 },
     /// Call n is the first that is not played yet.
     NotBuilt { n: CallNo, kind: u16 },
 }
@@ -40,6 +42,7 @@ pub fn status_number(s: &Status) -> u8
         Status::BadLog { .. } => 5,
         Status::TooLong => 6,
         Status::NoMemory => 7,
+        Status::BadText { .. } => 8,
         Status::NotBuilt { .. } => 9,
     }
 }
@@ -56,6 +59,7 @@ pub fn status_text(alloc: Global, s: &Status) -> Result<String, AllocError>
         Status::BadLog { fault } => say_bad_log(alloc, fault),
         Status::TooLong => String::from_str(alloc, "longer than 67108864 bytes"),
         Status::NoMemory => String::from_str(alloc, "no memory"),
+        Status::BadText { line } => say_bad_text(alloc, *line),
         Status::NotBuilt { n, kind } => say_not_built(alloc, *n, *kind),
     }
 }
@@ -66,6 +70,12 @@ fn say_bad_log(alloc: Global, fault: &LogFault) -> Result<String, AllocError>
     let kind = name_of_kind(fault.kind);
     let at = fault.at;
     format!(in alloc; "{kind} at {at}")
+}
+
+fn say_bad_text(alloc: Global, line: u64) -> Result<String, AllocError>
+    ensures { IfOk result (λ text. string_bytes text ≡ bad_text_text line) }
+{
+    format!(in alloc; "line {line}")
 }
 
 fn say_not_built(alloc: Global, n: CallNo, kind: u16) -> Result<String, AllocError>

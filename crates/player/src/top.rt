@@ -3,23 +3,24 @@ ghost use Rattle.dx_io.specs.Faults.{Rose, IsSteady};
 ghost use Rattle.call_log.specs.Grammar.{IsLog};
 ghost use Rattle.player.specs.declared.command.Command as command;
 ghost use Rattle.player.specs.Words.{command_of};
-ghost use Rattle.player.specs.Outcome.{OutcomeOf, Outcome, CameOf, Accepted, IsNotBuilt};
+ghost use Rattle.player.specs.Outcome.{OutcomeOf, Outcome, CameOf, Accepted, IsNotBuilt, Writes};
 
 use crate::command::{Command, command_of};
 use crate::run::play;
 use crate::status::Status;
 use call_log::{Log, LogEnd, read_log};
 use core_machine::first_unbuilt;
-use dx_io::{ReadEnd, Sink, Source, read_all};
+use dx_io::{ReadEnd, Sink, Source, read_all, write_all};
 use dx_types::CallNo;
+use log_text::{TextEnd, asm, list};
 use std::alloc::Global;
 
 /// The longest input, in bytes.
 const MAX_INPUT: u64 = 67_108_864;
 
 /// Does what the words of a command line ask for, which stand here without the program's name. `replay`
-/// reads a log from the source to its end, plays it and writes the line of each reply as it comes. The input
-/// is at most 67,108,864 bytes.
+/// reads a log from the source to its end, plays it and writes the line of each reply as it comes; `list` writes
+/// the text of a log, and `asm` the log of a text. The input is at most 67,108,864 bytes.
 pub fn replay<S: Source, K: Sink>(
     alloc: Global,
     words: &[String],
@@ -87,6 +88,8 @@ fn answer<K: Sink>(alloc: Global, command: Command, bytes: &[u8], out: &mut K) -
 {
     match command {
         Command::Replay => replay_bytes(alloc, bytes, out),
+        Command::List => list_bytes(alloc, bytes, out),
+        Command::Asm => asm_bytes(alloc, bytes, out),
     }
 }
 
@@ -121,5 +124,53 @@ fn not_built(log: &Log<'_>, n: CallNo) -> Status
     match log.item(n) {
         Some(item) => Status::NotBuilt { n, kind: item.kind },
         None => Status::NotBuilt { n, kind: 0 },
+    }
+}
+
+fn list_bytes<K: Sink>(alloc: Global, bytes: &[u8], out: &mut K) -> Status
+    requires { length bytes.now ≤ 67108864 }
+    ensures outcome { CameOf Command.List bytes.now (K.held out.old) result (K.held out.new) }
+    ensures write_fault { result ≡ Status.WriteFault → Rose (K.faults out.old) (K.faults out.new) }
+    ensures write_later { K.faults out.old ≤ K.faults out.new }
+{
+    match read_log(alloc, bytes) {
+        Ok(log) => list_log(alloc, &log, out),
+        Err(LogEnd::Bad(fault)) => Status::BadLog { fault },
+        Err(LogEnd::NoMemory) => Status::NoMemory,
+    }
+}
+
+fn list_log<K: Sink>(alloc: Global, log: &Log<'_>, out: &mut K) -> Status
+    ensures outcome { (bytes : List ℕ) → IsLog bytes log.now.frames → CameOf Command.List bytes (K.held out.old) result (K.held out.new) }
+    ensures write_fault { result ≡ Status.WriteFault → Rose (K.faults out.old) (K.faults out.new) }
+    ensures write_later { K.faults out.old ≤ K.faults out.new }
+{
+    match list(alloc, log) {
+        Ok(text) => write(out, text.as_bytes()),
+        Err(_) => Status::NoMemory,
+    }
+}
+
+fn asm_bytes<K: Sink>(alloc: Global, text: &[u8], out: &mut K) -> Status
+    requires { length text.now ≤ 67108864 }
+    ensures outcome { CameOf Command.Asm text.now (K.held out.old) result (K.held out.new) }
+    ensures write_fault { result ≡ Status.WriteFault → Rose (K.faults out.old) (K.faults out.new) }
+    ensures write_later { K.faults out.old ≤ K.faults out.new }
+{
+    match asm(alloc, text) {
+        Ok(log) => write(out, &log),
+        Err(TextEnd::Bad { line }) => Status::BadText { line },
+        Err(TextEnd::NoMemory) => Status::NoMemory,
+    }
+}
+
+fn write<K: Sink>(out: &mut K, bytes: &[u8]) -> Status
+    ensures written { Writes bytes.now (K.held out.old) result (K.held out.new) }
+    ensures write_fault { result ≡ Status.WriteFault → Rose (K.faults out.old) (K.faults out.new) }
+    ensures write_later { K.faults out.old ≤ K.faults out.new }
+{
+    match write_all(out, bytes) {
+        Ok(()) => Status::Done,
+        Err(_) => Status::WriteFault,
     }
 }

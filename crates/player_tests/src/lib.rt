@@ -5,3 +5,5 @@
 mod cases;
 #[cfg(test)]
 mod replays;
+#[cfg(test)]
+mod texts;

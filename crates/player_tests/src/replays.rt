@@ -105,6 +105,7 @@ fn texts(rt: HostRuntime) -> Result<(), Fail> {
         (bad(156, LogKind::Truncated), 5, "Truncated at 156"),
         (Status::TooLong, 6, "longer than 67108864 bytes"),
         (Status::NoMemory, 7, "no memory"),
+        (Status::BadText { line: 3 }, 8, "line 3"),
         (
             Status::NotBuilt { n: 1, kind: 3 },
             9,

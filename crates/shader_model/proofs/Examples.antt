@@ -4,7 +4,6 @@ use Rattle.shader_model.specs.declared.fault.ShaderKind.TheVariants as kind
 use Rattle.shader_model.specs.Opcodes.{row_of}
 use Rattle.shader_model.specs.Faults.{first_bad, first_bad_of_bytes, fault_at}
 use Rattle.shader_model.specs.Shader.{spelled_by}
-use Rattle.shader_model.specs.Worked.{udiv_shift_bitfield, store_out_of_range}
 use Rattle.shader_model.specs.Invocation.{Slots}
 use Rattle.shader_model.specs.Dispatch.{dispatched, count_of}
 use Rattle.shader_model.specs.Arithmetic.{negated, unsigned_high, signed_high, product_low, quotient, remainder, signed_min, signed_max, signed_lt, left, right, signed_right, five, field, inserted, truth}
@@ -17,6 +16,18 @@ only_view words = record { constants = []; reads = []; writes = words ∷ [] }
 abbrev after_one_group : List ℕ → List ℕ → Option (List (List ℕ))
 after_one_group shader words = option_map (λ p. (dispatched p (1 ∷ 1 ∷ 1 ∷ []) (only_view words)).writes) (spelled_by shader)
 
+-- a division by 0, a shift by 33 and a bit field to the end of the word, stored
+abbrev pub udiv_shift_bitfield : List ℕ
+udiv_shift_bitfield =
+    (0x1 ∷ 0x3e ∷ [])
+    ++ (0x401 ∷ 0x1 ∷ 0x1 ∷ 0x1 ∷ [])
+    ++ (0x202 ∷ 0x1 ∷ [])
+    ++ (0x405 ∷ 0x0 ∷ 0x0 ∷ 0x0 ∷ [])
+    ++ (0xd17 ∷ 0x10 ∷ 0x20 ∷ 0xe41 ∷ 0x7 ∷ 0x7 ∷ 0x7 ∷ 0x7 ∷ 0xe41 ∷ 0x0 ∷ 0x0 ∷ 0x0 ∷ 0x0 ∷ [])
+    ++ (0xc20 ∷ 0x40 ∷ 0xe41 ∷ 0x5 ∷ 0x5 ∷ 0x5 ∷ 0x5 ∷ 0xe41 ∷ 0x21 ∷ 0x21 ∷ 0x21 ∷ 0x21 ∷ [])
+    ++ (0x1129 ∷ 0x80 ∷ 0xe41 ∷ 0x14 ∷ 0x14 ∷ 0x14 ∷ 0x14 ∷ 0xe41 ∷ 0x14 ∷ 0x14 ∷ 0x14 ∷ 0x14 ∷ 0xe41 ∷ 0xabcdef12 ∷ 0xabcdef12 ∷ 0xabcdef12 ∷ 0xabcdef12 ∷ [])
+    ++ (0xf0831 ∷ 0x100 ∷ 0xe41 ∷ 0x0 ∷ 0x0 ∷ 0x0 ∷ 0x0 ∷ 0xe40 ∷ [])
+
 good_udiv_shift_bitfield : first_bad udiv_shift_bitfield ≡ None
 unfolding row_of
 good_udiv_shift_bitfield = refl
@@ -24,6 +35,16 @@ good_udiv_shift_bitfield = refl
 after_udiv_shift_bitfield : after_one_group udiv_shift_bitfield (0 ∷ 0 ∷ 0 ∷ 0 ∷ []) ≡ Some ((0xffff_ffff ∷ 0xffff_ffff ∷ 0xa ∷ 0xabc ∷ []) ∷ [])
 unfolding row_of
 after_udiv_shift_bitfield = refl
+
+-- stores at byte 12, at 16 and at the last word of all addresses
+abbrev pub store_out_of_range : List ℕ
+store_out_of_range =
+    (0x1 ∷ 0x2e ∷ [])
+    ++ (0x401 ∷ 0x1 ∷ 0x1 ∷ 0x1 ∷ [])
+    ++ (0x405 ∷ 0x0 ∷ 0x0 ∷ 0x0 ∷ [])
+    ++ (0x10c31 ∷ 0x100 ∷ 0xe41 ∷ 0xc ∷ 0xc ∷ 0xc ∷ 0xc ∷ 0xe41 ∷ 0x1 ∷ 0x1 ∷ 0x1 ∷ 0x1 ∷ [])
+    ++ (0x10c31 ∷ 0x100 ∷ 0xe41 ∷ 0x10 ∷ 0x10 ∷ 0x10 ∷ 0x10 ∷ 0xe41 ∷ 0x2 ∷ 0x2 ∷ 0x2 ∷ 0x2 ∷ [])
+    ++ (0x10c31 ∷ 0x100 ∷ 0xe41 ∷ 0xfffffffc ∷ 0xfffffffc ∷ 0xfffffffc ∷ 0xfffffffc ∷ 0xe41 ∷ 0x3 ∷ 0x3 ∷ 0x3 ∷ 0x3 ∷ [])
 
 after_store_out_of_range : after_one_group store_out_of_range (0 ∷ 0 ∷ 0 ∷ 0 ∷ []) ≡ Some ((0 ∷ 0 ∷ 0 ∷ 1 ∷ []) ∷ [])
 unfolding row_of

@@ -7,4 +7,7 @@ pub mod Statements
 pub mod Counting
 pub mod Fitting
 pub mod Lengths
+pub mod Declaring
+pub mod Depth
+pub mod Goodness
 mod Examples

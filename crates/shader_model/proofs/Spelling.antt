@@ -31,7 +31,7 @@ pub not_false : (b : Bool) → not b ≡ false → b ≡ true
 not_false true h = refl
 not_false false h = cc
 
-neither : (a b : Option ShaderFault) → or_else a b ≡ None → (a ≡ None) × (b ≡ None)
+pub neither : (a b : Option ShaderFault) → or_else a b ≡ None → (a ≡ None) × (b ≡ None)
 neither None b h = (refl, h)
 neither (Some f) b h = cc
 

@@ -11,4 +11,3 @@ pub mod Invocation
 pub mod Dispatch
 pub mod Good
 pub mod Lengths
-pub mod Worked

@@ -1,0 +1,15 @@
+pub mod Digits
+pub mod Cuts
+pub mod Hex
+pub mod Numbers
+pub mod Results
+pub mod Bodies
+pub mod Shapes
+pub mod CallKinds
+pub mod PutBack
+pub mod Names
+pub mod LineParts
+pub mod Lines
+pub mod Written
+pub mod SameLine
+pub mod Spelling

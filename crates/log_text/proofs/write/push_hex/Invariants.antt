@@ -1,0 +1,10 @@
+use Rattle.std.proofs.Common.{◌≡◌, ◌++◌, length}
+use Rattle.std.specs.String.{string_bytes}
+use Rattle.hex.specs.Hex.{encode_lower}
+use Rattle.log_text.proofs.write.push_hex.Given as goal
+
+abbrev pub invariant-pieces : goal.invariant-pieces
+invariant-pieces l = string_bytes l.text ++ encode_lower l.rest ≡ string_bytes l.fn.text ++ encode_lower l.fn.bytes
+
+abbrev pub decreases-pieces : goal.decreases-pieces
+decreases-pieces l = length l.rest

@@ -1,0 +1,3 @@
+pub mod Forms
+pub mod LogText
+pub mod Reading

@@ -1,0 +1,177 @@
+ghost use Rattle.std.specs.Prelude.{◌≡◌, ◌<◌, ◌≤◌, ◌^◌, ◌*◌, ℕ, List, [], ◌++◌, ◌-◌, length, take, drop, IsTrue, OnOk, IfOk, IfErr};
+ghost use Rattle.std.specs.List.{flat_map};
+ghost use Rattle.hex.specs.Hex.{decode_sized, encode_lower};
+ghost use Rattle.byteorder.specs.Endian.{little_bytes};
+ghost use Rattle.call_log.specs.Put.{AreWords};
+ghost use Rattle.log_text.specs.LogText.{number_field, bytes_field, fields};
+ghost use Rattle.log_text.specs.Reading.{AreBytes, HasShape, ReadsBody, ReadsBytes, ReadsNumbers, StopsAt, WhenBad, lower};
+
+use crate::form::Shape;
+use crate::text_end::Stop;
+use crate::word::{behind, cut, number};
+use byteorder::{ByteOrder, LittleEndian};
+
+/// Reads a line's fields into the body that they spell, behind nothing. `body` is left with anything where they
+/// spell none.
+pub(crate) fn read_fields(shape: Shape, text: &[u8], body: &mut Vec<u8>) -> Result<(), Stop>
+    requires empty { body.old.items ≡ [] }
+    requires stops { StopsAt 32 text.now }
+    requires small { length text.now < 2 ^ 32 }
+    ensures found { OnOk result (ReadsBody shape text.now body.new.items) }
+    ensures bad { IfErr result (λ e. WhenBad e ((b : List ℕ) → HasShape shape b → text.now ≡ fields shape b → ⊥)) }
+{
+    match shape {
+        Shape::Numbers(n) => read_all_numbers(n as usize, text, body),
+        Shape::Bytes(n) => read_counted(n as usize, text, body),
+        Shape::Tokens => read_tokens(text, body),
+        Shape::Body => read_bytes(text, body),
+    }
+}
+
+fn read_all_numbers(n: usize, text: &[u8], body: &mut Vec<u8>) -> Result<(), Stop>
+    requires empty { body.old.items ≡ [] }
+    requires stops { StopsAt 32 text.now }
+    requires few { n < 256 }
+    ensures found { OnOk result (ReadsBody (Shape.Numbers n) text.now body.new.items) }
+    ensures bad { IfErr result (λ e. WhenBad e ((b : List ℕ) → HasShape (Shape.Numbers n) b → text.now ≡ fields (Shape.Numbers n) b → ⊥)) }
+{
+    let rest = read_numbers(n, text, body)?;
+    if !rest.is_empty() {
+        return Err(Stop::Bad);
+    }
+    Ok(())
+}
+
+fn read_counted(n: usize, text: &[u8], body: &mut Vec<u8>) -> Result<(), Stop>
+    requires empty { body.old.items ≡ [] }
+    requires stops { StopsAt 32 text.now }
+    requires few { n < 256 }
+    requires small { length text.now < 2 ^ 32 }
+    ensures found { OnOk result (ReadsBody (Shape.Bytes n) text.now body.new.items) }
+    ensures bad { IfErr result (λ e. WhenBad e ((b : List ℕ) → HasShape (Shape.Bytes n) b → text.now ≡ fields (Shape.Bytes n) b → ⊥)) }
+{
+    let rest = read_numbers(n, text, body)?;
+    put_word(body, byte_count(rest))?;
+    read_bytes(rest, body)
+}
+
+fn read_tokens(text: &[u8], body: &mut Vec<u8>) -> Result<(), Stop>
+    requires empty { body.old.items ≡ [] }
+    requires stops { StopsAt 32 text.now }
+    requires small { length text.now < 2 ^ 32 }
+    ensures found { OnOk result (ReadsBody Shape.Tokens text.now body.new.items) }
+    ensures bad { IfErr result (λ e. WhenBad e ((b : List ℕ) → HasShape Shape.Tokens b → text.now ≡ fields Shape.Tokens b → ⊥)) }
+{
+    let rest = read_numbers(1, text, body)?;
+    if byte_count(rest) % 4 != 0 {
+        return Err(Stop::Bad);
+    }
+    read_bytes(rest, body)
+}
+
+// Reads n numbers that stand in front, a blank before each, and puts them as words: what stands behind them.
+fn read_numbers<'a>(n: usize, text: &'a [u8], body: &mut Vec<u8>) -> Result<&'a [u8], Stop>
+    requires empty { body.old.items ≡ [] }
+    requires stops { StopsAt 32 text.now }
+    ensures found { IfOk result (λ rest. ReadsNumbers n text.now rest.now [] body.new.items × StopsAt 32 rest.now) }
+    ensures bad { IfErr result (λ e. WhenBad e ((words rest : List ℕ) → length words ≡ n → AreWords words → StopsAt 32 rest → text.now ≡ flat_map number_field words ++ rest → ⊥)) }
+{
+    let mut rest = text;
+    'numbers: for i in 0..n {
+        rest = read_number(rest, body)?;
+    }
+    Ok(rest)
+}
+
+// The same of one number.
+fn read_number<'a>(text: &'a [u8], body: &mut Vec<u8>) -> Result<&'a [u8], Stop>
+    ensures found { IfOk result (λ rest. ReadsNumbers 1 text.now rest.now body.old.items body.new.items × StopsAt 32 rest.now) }
+    ensures bad { IfErr result (λ e. WhenBad e ((w : ℕ) (rest : List ℕ) → w < 2 ^ 32 → StopsAt 32 rest → text.now ≡ number_field w ++ rest → ⊥)) }
+{
+    let Some(fields) = behind(b' ', text) else {
+        return Err(Stop::Bad);
+    };
+    let (word, rest) = cut(fields, b' ');
+    let Some(number) = number(word) else {
+        return Err(Stop::Bad);
+    };
+    put_word(body, number)?;
+    Ok(rest)
+}
+
+fn put_word(body: &mut Vec<u8>, word: u32) -> Result<(), Stop>
+    ensures put { OnOk result (body.new.items ≡ body.old.items ++ little_bytes 4 word) }
+    ensures memory { IfErr result (λ e. e ≡ Stop.NoMemory) }
+{
+    let mut bytes = [0; 4];
+    LittleEndian::write_u32(&mut bytes, word);
+    body.extend_from_slice(&bytes)?;
+    Ok(())
+}
+
+// How many bytes a field of bytes has, where it is one.
+fn byte_count(field: &[u8]) -> u32
+    requires { length field.now < 2 ^ 32 }
+    ensures { (bytes : List ℕ) → field.now ≡ bytes_field bytes → result ≡ length bytes }
+{
+    (field.len().saturating_sub(1) / 2) as u32
+}
+
+// Reads a field of bytes that is all of a text, with its blank, and puts the bytes.
+fn read_bytes(text: &[u8], body: &mut Vec<u8>) -> Result<(), Stop>
+    ensures found { OnOk result (ReadsBytes text.now body.old.items body.new.items) }
+    ensures bad { IfErr result (λ e. WhenBad e ((bytes : List ℕ) → AreBytes bytes → text.now ≡ bytes_field bytes → ⊥)) }
+{
+    let Some(word) = behind(b' ', text) else {
+        return Err(Stop::Bad);
+    };
+    if word.is_empty() {
+        return Err(Stop::Bad);
+    }
+    if word == b"-".as_slice() {
+        return Ok(());
+    }
+    read_hex(word, body)
+}
+
+// Puts the bytes that a word in hexadecimal is.
+fn read_hex(word: &[u8], body: &mut Vec<u8>) -> Result<(), Stop>
+    ensures found { OnOk result ((bytes : List ℕ) × AreBytes bytes × (word.now ≡ encode_lower bytes) × (body.new.items ≡ body.old.items ++ bytes)) }
+    ensures bad { IfErr result (λ e. WhenBad e ((bytes : List ℕ) → AreBytes bytes → word.now ≡ encode_lower bytes → ⊥)) }
+{
+    if !is_lower(word) {
+        return Err(Stop::Bad);
+    }
+    let from = body.len();
+    body.resize(from + word.len() / 2, 0)?;
+    if decode_from(from, word, body.as_mut_slice()) {
+        Ok(())
+    } else {
+        Err(Stop::Bad)
+    }
+}
+
+// Writes the bytes that a word in hexadecimal is over those from a place on; not if they are another number.
+fn decode_from(from: usize, word: &[u8], bytes: &mut [u8]) -> bool
+    requires { from ≤ length bytes.old }
+    ensures kept { take from bytes.new ≡ take from bytes.old }
+    ensures decoded { IsTrue result → decode_sized word.now (length bytes.old - from) ≡ Ok (drop from bytes.new) }
+    ensures other { (b : List ℕ) → decode_sized word.now (length bytes.old - from) ≡ Ok b → IsTrue result }
+{
+    match hex::decode_to_slice(word, &mut bytes[from..]) {
+        Ok(()) => true,
+        Err(_) => false,
+    }
+}
+
+// Whether no byte is a capital letter, which decoding would take.
+fn is_lower(word: &[u8]) -> bool
+    ensures { result ≡ lower word.now }
+{
+    'bytes: for byte in word {
+        if byte.is_ascii_uppercase() {
+            return false;
+        }
+    }
+    true
+}
