@@ -1,0 +1,2 @@
+pub mod CheckOrder
+pub mod KeptTotals

@@ -1,0 +1,4 @@
+pub mod CheckOrder
+pub mod Pushed
+pub mod Spans
+pub mod Unset

@@ -1,0 +1,3 @@
+pub mod Creation
+pub mod Limits
+pub mod Meaning
