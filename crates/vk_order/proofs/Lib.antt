@@ -1,2 +1,6 @@
 mod AllScan
 mod Open
+pub mod Placed
+pub mod Whole
+pub mod Acts
+pub mod Broken

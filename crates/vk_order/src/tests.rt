@@ -127,3 +127,34 @@ fn by_fences(rt: HostRuntime) -> Result<(), Fail> {
     }
     Ok(())
 }
+
+#[test]
+fn orders(rt: HostRuntime) -> Result<(), Fail> {
+    let alloc = rt.alloc();
+    let ops = clear_and_reads(alloc, Mask::device(Access::READ_WRITE))?;
+    assert_eq!(rt; ops.len(), 5);
+    assert_eq!(rt; allowed(&ops, &[0, 3, 2]), Ok(()));
+    assert_eq!(rt; allowed(&ops, &[0, 2, 3]), Ok(()));
+    assert_eq!(rt;
+        allowed(&ops, &[3, 0, 2]),
+        Err(OrderEnd::Broken {
+            first: 0,
+            second: 3
+        })
+    );
+    assert_eq!(rt;
+        allowed(&ops, &[2, 3, 0]),
+        Err(OrderEnd::Broken {
+            first: 0,
+            second: 2
+        })
+    );
+    assert_eq!(rt; allowed(&ops, &[0, 2]), Err(OrderEnd::NotAll { at: 2 }));
+    assert_eq!(rt; allowed(&ops, &[0, 1, 2]), Err(OrderEnd::NotAll { at: 1 }));
+    assert_eq!(rt; allowed(&ops, &[0, 2, 0]), Err(OrderEnd::NotAll { at: 2 }));
+    assert_eq!(rt;
+        allowed(&ops, &[0, 2, 3, 3]),
+        Err(OrderEnd::NotAll { at: 3 })
+    );
+    Ok(())
+}
