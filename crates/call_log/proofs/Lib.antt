@@ -6,3 +6,4 @@ pub mod OneReading
 pub mod SomeReading
 pub mod ReadBack
 pub mod FrameBack
+pub mod Records

@@ -17,7 +17,7 @@ pub use fault::{LogEnd, LogFault, LogKind};
 pub use item::Item;
 pub use laws::{one_reading, puts_read_back};
 pub use log::{Log, read_log};
-pub use put::{put_call, put_end, put_header};
+pub use put::{close_record, open_record, put_call, put_end, put_header};
 
 #[cfg(test)]
 mod tests;

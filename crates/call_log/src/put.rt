@@ -1,4 +1,4 @@
-ghost use Rattle.std.specs.Prelude.{◌≡◌, ◌+◌, ◌*◌, ◌<◌, ◌≤◌, ◌^◌, ◌++◌, List, ℕ, length, take, OnOk, OnErr};
+ghost use Rattle.std.specs.Prelude.{◌≡◌, ◌+◌, ◌*◌, ◌<◌, ◌≤◌, ◌^◌, ◌++◌, ◌-◌, List, ℕ, length, take, drop, OnOk, OnErr, IfOk};
 ghost use Rattle.byteorder.specs.Endian.{little_bytes};
 ghost use Rattle.call_log.specs.Grammar.{header, end_record, spell};
 ghost use Rattle.call_log.specs.Put.{frame_of, spell_words, IsPuttable};
@@ -16,6 +16,40 @@ pub fn put_header(buf: &mut Vec<u8>) -> Result<(), AllocError>
     ensures kept { OnErr result (buf.new.items ≡ buf.old.items) }
 {
     buf.extend_from_slice(&HEADER)
+}
+
+/// Puts the 8 bytes that stand before a record's body, with a body length of 0 for the time being, and answers where
+/// the body begins. The body is put behind them, and `close_record` then writes its length. Where memory is refused
+/// `buf` is as it was.
+pub fn open_record(buf: &mut Vec<u8>, kind: u16, context: u16) -> Result<usize, AllocError>
+    ensures appended { OnOk result (buf.new.items ≡ buf.old.items ++ (little_bytes 2 kind ++ (little_bytes 2 context ++ little_bytes 4 0))) }
+    ensures place { IfOk result (λ from. from ≡ length buf.old.items + 8) }
+    ensures kept { OnErr result (buf.new.items ≡ buf.old.items) }
+{
+    let mut head = [0; 8];
+    LittleEndian::write_u16(&mut head, kind);
+    LittleEndian::write_u16(&mut head[2..], context);
+    buf.extend_from_slice(&head)?;
+    Ok(buf.len())
+}
+
+/// Writes the length of the record's body that begins at `from` and is all that follows: fewer than 2^32 bytes.
+pub fn close_record(buf: &mut Vec<u8>, from: usize)
+    requires head { 4 ≤ from }
+    requires begun { from ≤ length buf.old.items }
+    requires small { length buf.old.items - from < 2 ^ 32 }
+    ensures { buf.new.items ≡ take (from - 4) buf.old.items ++ (little_bytes 4 (length buf.old.items - from) ++ drop from buf.old.items) }
+{
+    let len = buf.len() - from;
+    write_length(buf.as_mut_slice(), from - 4, len as u32);
+}
+
+// Writes a length over the four bytes at a place.
+fn write_length(bytes: &mut [u8], at: usize, len: u32)
+    requires { at + 4 ≤ length bytes.old }
+    ensures { bytes.new ≡ take at bytes.old ++ (little_bytes 4 len ++ drop (at + 4) bytes.old) }
+{
+    LittleEndian::write_u32(&mut bytes[at..at + 4], len);
 }
 
 /// Puts the 8 bytes that end a log behind what `buf` holds. Where memory is refused `buf` is as it was.
@@ -170,23 +204,11 @@ fn append_record(
     ensures appended { OnOk result (buf.new.items ≡ buf.old.items ++ spell (record { kind = kind; context = context; body = spell_words words.now ++ rest.now })) }
     ensures front { take (length buf.old.items) buf.new.items ≡ buf.old.items }
 {
-    let len = 4 * words.len() + rest.len();
-    append_head(buf, kind, context, len as u32)?;
+    let from = open_record(buf, kind, context)?;
     append_words(buf, words)?;
     buf.extend_from_slice(rest)?;
+    close_record(buf, from);
     Ok(())
-}
-
-// Puts the part of a record before its body, or nothing.
-fn append_head(buf: &mut Vec<u8>, kind: u16, context: u16, len: u32) -> Result<(), AllocError>
-    ensures appended { OnOk result (buf.new.items ≡ buf.old.items ++ (little_bytes 2 kind ++ (little_bytes 2 context ++ little_bytes 4 len))) }
-    ensures kept { OnErr result (buf.new.items ≡ buf.old.items) }
-{
-    let mut head = [0; 8];
-    LittleEndian::write_u16(&mut head, kind);
-    LittleEndian::write_u16(&mut head[2..], context);
-    LittleEndian::write_u32(&mut head[4..], len);
-    buf.extend_from_slice(&head)
 }
 
 // Puts some words, or some of them.
