@@ -3,6 +3,7 @@ use Rattle.std.proofs.Common.{◌≡◌, ℕ, zero, suc, ◌+◌, ◌*◌, ◌/�
 use Rattle.std.specs.List.{flat_map, slice_index}
 use Rattle.std.proofs.lemmas.List.{drop_at, drop-drop}
 use Rattle.byteorder.specs.Endian.{little_bytes}
+use Rattle.call_log.specs.Body.{word}
 use Rattle.call_log.specs.Put.{AreWords, spell_words}
 use Rattle.log_text.specs.LogText.{number_field, number_fields, bytes_field, words_of}
 use Rattle.log_text.specs.Reading.{AreBytes, StopsAt, ReadsNumbers}
@@ -115,3 +116,11 @@ pub rest_is : (n : ℕ) (text rest old new body last : List ℕ) → ReadsNumber
 rest_is n text rest old new body last r sr fit sl e =
     numbers_behind r.words (words_of n body) rest last r.small (AreWords-words_of n body fit) sr sl (omega (arith, r.count, length-words_of n body)) (sym r.spelled ∙ e)
     ∙ drop_all_words (length r.words) (words_of n body) last (omega (arith, r.count, length-words_of n body))
+
+-- a body is its first word and the rest
+pub four_front : (body : List ℕ) → AreBytes body → 4 ≤ length body → little_bytes 4 (word 0 body) ++ drop 4 body ≡ body
+four_front [] fit le = absurd (omega arith)
+four_front (a ∷ []) fit le = absurd (omega arith)
+four_front (a ∷ b ∷ []) fit le = absurd (omega arith)
+four_front (a ∷ b ∷ c ∷ []) fit le = absurd (omega arith)
+four_front (a ∷ b ∷ c ∷ d ∷ rest) fit le = ap (λ (l : List ℕ). l ++ rest) (four_bytes a b c d fit.0 fit.1.0 fit.1.1.0 fit.1.1.1.0)

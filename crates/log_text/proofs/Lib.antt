@@ -6,7 +6,6 @@ pub mod Results
 pub mod Bodies
 pub mod Shapes
 pub mod CallKinds
-pub mod PutBack
 pub mod Names
 pub mod LineParts
 pub mod Lines

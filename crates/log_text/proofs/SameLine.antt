@@ -20,8 +20,7 @@ use Rattle.log_text.proofs.Cuts.{same_cut}
 use Rattle.log_text.proofs.Digits.{Lacks-decimal}
 use Rattle.log_text.proofs.Hex.{is_bytes}
 use Rattle.log_text.proofs.Numbers.{same_number, stops_numbers, numbers_cons}
-use Rattle.log_text.proofs.Bodies.{words_and_rest, AreWords-words_of, length-words_of, AreBytes-drop, stops_field}
-use Rattle.log_text.proofs.PutBack.{four_front}
+use Rattle.log_text.proofs.Bodies.{words_and_rest, AreWords-words_of, length-words_of, AreBytes-drop, stops_field, four_front}
 use Rattle.log_text.proofs.Shapes.{both_true}
 use Rattle.log_text.proofs.Names.{name_no_blank, same_name}
 use Rattle.log_text.proofs.LineParts.{parts_of, stops_fields, some_same}

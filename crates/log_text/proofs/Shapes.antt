@@ -9,7 +9,7 @@ use Rattle.call_log.specs.Body.{word}
 use Rattle.call_log.specs.Put.{spell_words}
 use Rattle.log_text.specs.declared.form.Shape.TheVariants.{Numbers, Bytes, Tokens, Body}
 use Rattle.log_text.specs.LogText.{number_field, number_fields, bytes_field, fields}
-use Rattle.log_text.specs.Reading.{AreBytes, StopsAt, ReadsNumbers, ReadsBytes, ReadsBody, HasShape}
+use Rattle.log_text.specs.Reading.{AreBytes, StopsAt, ReadsNumbers, ReadsBytes, ReadsBody, PutsBody, HasShape}
 use Rattle.log_text.proofs.Hex.{field_count}
 use Rattle.log_text.proofs.Bodies.{words_put, rest_put, rest_is, length-spell_words, AreBytes-append, AreBytes-spell_words, stops_field}
 
@@ -21,9 +21,16 @@ empty (x ∷ xs) e = absurd (omega arith)
 field_long : (bytes : List ℕ) → 2 * length bytes ≤ length (bytes_field bytes)
 field_long bytes = omega (arith, field_count bytes)
 
+-- what was read, put behind nothing
+alone : (n : ℕ) (text rest old new : List ℕ) (r : ReadsNumbers n text rest old new) → ReadsNumbers n text rest [] (spell_words r.words)
+alone n text rest old new r = record { words = r.words; count = r.count; small = r.small; spelled = r.spelled; put = refl }
+
+alone_bytes : (text old new : List ℕ) (front : List ℕ) (b : ReadsBytes text old new) → ReadsBytes text front (front ++ b.bytes)
+alone_bytes text old new front b = record { bytes = b.bytes; fit = b.fit; spelled = b.spelled; put = refl }
+
 -- ---- numbers alone
 
-pub numbers_found : (n : ℕ) (text rest new : List ℕ) → n < 256 → ReadsNumbers n text rest [] new → length rest ≡ 0 → ReadsBody (Numbers n) text new
+numbers_found : (n : ℕ) (text rest new : List ℕ) → n < 256 → ReadsNumbers n text rest [] new → length rest ≡ 0 → ReadsBody (Numbers n) text new
 unfolding fields
 numbers_found n text rest new few r none =
     let put : new ≡ spell_words r.words ++ [] = r.put ∙ sym (append-nil (spell_words r.words)) in
@@ -38,6 +45,9 @@ numbers_found n text rest new few r none =
           r.spelled ∙ ap (λ (l : List ℕ). flat_map number_field r.words ++ l) (empty rest none) ∙ append-nil (flat_map number_field r.words)
           ∙ ap (flat_map number_field) (sym (words_put n r.words [] new r.count r.small put));
     }
+
+pub numbers_put : (n : ℕ) (text rest old new : List ℕ) → n < 256 → ReadsNumbers n text rest old new → length rest ≡ 0 → PutsBody (Numbers n) text old new
+numbers_put n text rest old new few r none = record { body = spell_words r.words; reads = numbers_found n text rest _ few (alone n text rest old new r) none; put = r.put }
 
 pub numbers_text : (n : ℕ) (text body : List ℕ) → text ≡ fields (Numbers n) body → text ≡ number_fields n body ++ []
 unfolding fields
@@ -62,7 +72,7 @@ four_back n lt = omega arith
 counted : (n m w b : ℕ) → w ≡ b → m ≡ 4 * n + 4 + b → leb (4 * n + 4) m && eqb m (4 * n + 4 + w) ≡ true
 counted n m w b e is = grind (arith, nat_tests)
 
-pub bytes_found : (n len : ℕ) (text rest mid more new : List ℕ) → n < 256 → length text < 2 ^ 32 → ReadsNumbers n text rest [] mid → more ≡ mid ++ little_bytes 4 len
+bytes_found : (n len : ℕ) (text rest mid more new : List ℕ) → n < 256 → length text < 2 ^ 32 → ReadsNumbers n text rest [] mid → more ≡ mid ++ little_bytes 4 len
     → ((bytes : List ℕ) → rest ≡ bytes_field bytes → len ≡ length bytes) → ReadsBytes rest more new → ReadsBody (Bytes n) text new
 unfolding fields
 bytes_found n len text rest mid more new few small r put counts b =
@@ -86,6 +96,18 @@ bytes_found n len text rest mid more new few small r put counts b =
       spelled =
           r.spelled ∙ ap (λ (l : List ℕ). flat_map number_field r.words ++ l) (b.spelled ∙ ap bytes_field (sym tail))
           ∙ ap (λ (ws : List ℕ). flat_map number_field ws ++ bytes_field (drop (4 * n + 4) new)) (sym (words_put n r.words (little_bytes 4 len ++ bytes) new r.count r.small whole));
+    }
+
+pub bytes_put : (n len : ℕ) (text rest old mid more new : List ℕ) → n < 256 → length text < 2 ^ 32 → ReadsNumbers n text rest old mid → more ≡ mid ++ little_bytes 4 len
+    → ((bytes : List ℕ) → rest ≡ bytes_field bytes → len ≡ length bytes) → ReadsBytes rest more new → PutsBody (Bytes n) text old new
+bytes_put n len text rest old mid more new few small r put counts b =
+    let front : List ℕ = spell_words r.words ++ little_bytes 4 len in
+    record {
+      body = front ++ b.bytes;
+      reads = bytes_found n len text rest (spell_words r.words) front (front ++ b.bytes) few small (alone n text rest old mid r) refl counts (alone_bytes rest more new front b);
+      put =
+          b.put ∙ ap (λ (l : List ℕ). l ++ b.bytes) (put ∙ ap (λ (l : List ℕ). l ++ little_bytes 4 len) r.put ∙ append_assoc old (spell_words r.words) (little_bytes 4 len))
+          ∙ append_assoc old front b.bytes;
     }
 
 -- ---- a number, and then token words
@@ -114,7 +136,7 @@ tokens_whole body h =
 whole_tokens : (m n : ℕ) → m ≡ 4 + n → n % 4 ≡ 0 → leb 4 m && eqb (m % 4) 0 ≡ true
 whole_tokens m n is e = grind (arith, nat_tests)
 
-pub tokens_found : (text rest mid new : List ℕ) (len : ℕ) → length text < 2 ^ 32 → ReadsNumbers 1 text rest [] mid
+tokens_found : (text rest mid new : List ℕ) (len : ℕ) → length text < 2 ^ 32 → ReadsNumbers 1 text rest [] mid
     → ((bytes : List ℕ) → rest ≡ bytes_field bytes → len ≡ length bytes) → len % 4 ≡ 0 → ReadsBytes rest mid new → ReadsBody Tokens text new
 unfolding fields
 tokens_found text rest mid new len small r counts even b =
@@ -136,15 +158,28 @@ tokens_found text rest mid new len small r counts even b =
           ∙ ap (λ (ws : List ℕ). flat_map number_field ws ++ bytes_field (drop 4 new)) (sym (words_put 1 r.words bytes new r.count r.small whole));
     }
 
+pub tokens_put : (text rest old mid new : List ℕ) (len : ℕ) → length text < 2 ^ 32 → ReadsNumbers 1 text rest old mid
+    → ((bytes : List ℕ) → rest ≡ bytes_field bytes → len ≡ length bytes) → len % 4 ≡ 0 → ReadsBytes rest mid new → PutsBody Tokens text old new
+tokens_put text rest old mid new len small r counts even b =
+    let front : List ℕ = spell_words r.words in
+    record {
+      body = front ++ b.bytes;
+      reads = tokens_found text rest front (front ++ b.bytes) len small (alone 1 text rest old mid r) counts even (alone_bytes rest mid new front b);
+      put = b.put ∙ ap (λ (l : List ℕ). l ++ b.bytes) r.put ∙ append_assoc old front b.bytes;
+    }
+
 -- ---- bytes alone
 
 pub body_text : (text body : List ℕ) → text ≡ fields Body body → text ≡ bytes_field body
 unfolding fields
 body_text text body e = e
 
-pub body_found : (text new : List ℕ) → length text < 2 ^ 32 → ReadsBytes text [] new → ReadsBody Body text new
+body_found : (text new : List ℕ) → length text < 2 ^ 32 → ReadsBytes text [] new → ReadsBody Body text new
 unfolding fields
 body_found text new small b = record {
   shaped = record { fits = refl; bytes = subst AreBytes (sym b.put) b.fit; small = omega (arith, ap length b.put, ap length b.spelled, field_long b.bytes) };
   spelled = b.spelled ∙ ap bytes_field (sym b.put);
 }
+
+pub body_put : (text old new : List ℕ) → length text < 2 ^ 32 → ReadsBytes text old new → PutsBody Body text old new
+body_put text old new small b = record { body = b.bytes; reads = body_found text b.bytes small (alone_bytes text old new [] b); put = b.put }

@@ -78,6 +78,18 @@ pub record ReadsBody (shape : Shape) (text body : List ℕ) : Type 0 where
   pub shaped : HasShape shape body
   pub spelled : text ≡ fields shape body
 
+-- The fields of a body are all of a text, and the body was put.
+pub record PutsBody (shape : Shape) (text old new : List ℕ) : Type 0 where
+  pub body : List ℕ
+  pub reads : ReadsBody shape text body
+  pub put : new ≡ old ++ body
+
+-- The fields of a kind are all of a text, and the record of the kind with their body was put.
+pub record PutsRecord (kind context : ℕ) (shape : Shape) (text old new : List ℕ) : Type 0 where
+  pub body : List ℕ
+  pub reads : ReadsBody shape text body
+  pub put : new ≡ old ++ spell (record { kind = kind; context = context; body = body })
+
 -- A line without its line feed is that of a record, and the record was put behind a log.
 pub record ReadsLine (text old new : List ℕ) : Type 0 where
   pub frame : Frame

@@ -1,91 +1,85 @@
-ghost use Rattle.std.specs.Prelude.{◌≡◌, ◌<◌, ◌≤◌, ◌^◌, ◌*◌, ℕ, List, [], ◌++◌, ◌-◌, length, take, drop, IsTrue, OnOk, IfOk, IfErr};
+ghost use Rattle.std.specs.Prelude.{◌≡◌, ◌<◌, ◌≤◌, ◌^◌, ◌*◌, ℕ, List, ◌++◌, ◌-◌, length, take, drop, IsTrue, OnOk, IfOk, IfErr};
 ghost use Rattle.std.specs.List.{flat_map};
 ghost use Rattle.hex.specs.Hex.{decode_sized, encode_lower};
 ghost use Rattle.byteorder.specs.Endian.{little_bytes};
 ghost use Rattle.call_log.specs.Put.{AreWords};
 ghost use Rattle.log_text.specs.LogText.{number_field, bytes_field, fields};
-ghost use Rattle.log_text.specs.Reading.{AreBytes, HasShape, ReadsBody, ReadsBytes, ReadsNumbers, StopsAt, WhenBad, lower};
+ghost use Rattle.log_text.specs.Reading.{AreBytes, HasShape, PutsBody, ReadsBytes, ReadsNumbers, StopsAt, WhenBad, lower};
 
 use crate::form::Shape;
 use crate::text_end::Stop;
 use crate::word::{behind, cut, number};
 use byteorder::{ByteOrder, LittleEndian};
 
-/// Reads a line's fields into the body that they spell, behind nothing. `body` is left with anything where they
-/// spell none.
-pub(crate) fn read_fields(shape: Shape, text: &[u8], body: &mut Vec<u8>) -> Result<(), Stop>
-    requires empty { body.old.items ≡ [] }
+/// Reads a line's fields and puts the body that they spell. Anything may stand behind `log` where they spell none.
+pub(crate) fn read_fields(shape: Shape, text: &[u8], log: &mut Vec<u8>) -> Result<(), Stop>
     requires stops { StopsAt 32 text.now }
     requires small { length text.now < 2 ^ 32 }
-    ensures found { OnOk result (ReadsBody shape text.now body.new.items) }
+    ensures found { OnOk result (PutsBody shape text.now log.old.items log.new.items) }
     ensures bad { IfErr result (λ e. WhenBad e ((b : List ℕ) → HasShape shape b → text.now ≡ fields shape b → ⊥)) }
 {
     match shape {
-        Shape::Numbers(n) => read_all_numbers(n as usize, text, body),
-        Shape::Bytes(n) => read_counted(n as usize, text, body),
-        Shape::Tokens => read_tokens(text, body),
-        Shape::Body => read_bytes(text, body),
+        Shape::Numbers(n) => read_all_numbers(n as usize, text, log),
+        Shape::Bytes(n) => read_counted(n as usize, text, log),
+        Shape::Tokens => read_tokens(text, log),
+        Shape::Body => read_bytes(text, log),
     }
 }
 
-fn read_all_numbers(n: usize, text: &[u8], body: &mut Vec<u8>) -> Result<(), Stop>
-    requires empty { body.old.items ≡ [] }
+fn read_all_numbers(n: usize, text: &[u8], log: &mut Vec<u8>) -> Result<(), Stop>
     requires stops { StopsAt 32 text.now }
     requires few { n < 256 }
-    ensures found { OnOk result (ReadsBody (Shape.Numbers n) text.now body.new.items) }
+    ensures found { OnOk result (PutsBody (Shape.Numbers n) text.now log.old.items log.new.items) }
     ensures bad { IfErr result (λ e. WhenBad e ((b : List ℕ) → HasShape (Shape.Numbers n) b → text.now ≡ fields (Shape.Numbers n) b → ⊥)) }
 {
-    let rest = read_numbers(n, text, body)?;
+    let rest = read_numbers(n, text, log)?;
     if !rest.is_empty() {
         return Err(Stop::Bad);
     }
     Ok(())
 }
 
-fn read_counted(n: usize, text: &[u8], body: &mut Vec<u8>) -> Result<(), Stop>
-    requires empty { body.old.items ≡ [] }
+fn read_counted(n: usize, text: &[u8], log: &mut Vec<u8>) -> Result<(), Stop>
     requires stops { StopsAt 32 text.now }
     requires few { n < 256 }
     requires small { length text.now < 2 ^ 32 }
-    ensures found { OnOk result (ReadsBody (Shape.Bytes n) text.now body.new.items) }
+    ensures found { OnOk result (PutsBody (Shape.Bytes n) text.now log.old.items log.new.items) }
     ensures bad { IfErr result (λ e. WhenBad e ((b : List ℕ) → HasShape (Shape.Bytes n) b → text.now ≡ fields (Shape.Bytes n) b → ⊥)) }
 {
-    let rest = read_numbers(n, text, body)?;
-    put_word(body, byte_count(rest))?;
-    read_bytes(rest, body)
+    let rest = read_numbers(n, text, log)?;
+    put_word(log, byte_count(rest))?;
+    read_bytes(rest, log)
 }
 
-fn read_tokens(text: &[u8], body: &mut Vec<u8>) -> Result<(), Stop>
-    requires empty { body.old.items ≡ [] }
+fn read_tokens(text: &[u8], log: &mut Vec<u8>) -> Result<(), Stop>
     requires stops { StopsAt 32 text.now }
     requires small { length text.now < 2 ^ 32 }
-    ensures found { OnOk result (ReadsBody Shape.Tokens text.now body.new.items) }
+    ensures found { OnOk result (PutsBody Shape.Tokens text.now log.old.items log.new.items) }
     ensures bad { IfErr result (λ e. WhenBad e ((b : List ℕ) → HasShape Shape.Tokens b → text.now ≡ fields Shape.Tokens b → ⊥)) }
 {
-    let rest = read_numbers(1, text, body)?;
+    let rest = read_numbers(1, text, log)?;
     if byte_count(rest) % 4 != 0 {
         return Err(Stop::Bad);
     }
-    read_bytes(rest, body)
+    read_bytes(rest, log)
 }
 
 // Reads n numbers that stand in front, a blank before each, and puts them as words: what stands behind them.
-fn read_numbers<'a>(n: usize, text: &'a [u8], body: &mut Vec<u8>) -> Result<&'a [u8], Stop>
-    requires empty { body.old.items ≡ [] }
+fn read_numbers<'a>(n: usize, text: &'a [u8], log: &mut Vec<u8>) -> Result<&'a [u8], Stop>
     requires stops { StopsAt 32 text.now }
-    ensures found { IfOk result (λ rest. ReadsNumbers n text.now rest.now [] body.new.items × StopsAt 32 rest.now) }
+    ensures found { IfOk result (λ rest. ReadsNumbers n text.now rest.now log.old.items log.new.items × StopsAt 32 rest.now) }
     ensures bad { IfErr result (λ e. WhenBad e ((words rest : List ℕ) → length words ≡ n → AreWords words → StopsAt 32 rest → text.now ≡ flat_map number_field words ++ rest → ⊥)) }
 {
     let mut rest = text;
     'numbers: for i in 0..n {
-        rest = read_number(rest, body)?;
+        rest = read_number(rest, log)?;
     }
     Ok(rest)
 }
 
 // The same of one number.
-fn read_number<'a>(text: &'a [u8], body: &mut Vec<u8>) -> Result<&'a [u8], Stop>
-    ensures found { IfOk result (λ rest. ReadsNumbers 1 text.now rest.now body.old.items body.new.items × StopsAt 32 rest.now) }
+fn read_number<'a>(text: &'a [u8], log: &mut Vec<u8>) -> Result<&'a [u8], Stop>
+    ensures found { IfOk result (λ rest. ReadsNumbers 1 text.now rest.now log.old.items log.new.items × StopsAt 32 rest.now) }
     ensures bad { IfErr result (λ e. WhenBad e ((w : ℕ) (rest : List ℕ) → w < 2 ^ 32 → StopsAt 32 rest → text.now ≡ number_field w ++ rest → ⊥)) }
 {
     let Some(fields) = behind(b' ', text) else {
@@ -95,17 +89,17 @@ fn read_number<'a>(text: &'a [u8], body: &mut Vec<u8>) -> Result<&'a [u8], Stop>
     let Some(number) = number(word) else {
         return Err(Stop::Bad);
     };
-    put_word(body, number)?;
+    put_word(log, number)?;
     Ok(rest)
 }
 
-fn put_word(body: &mut Vec<u8>, word: u32) -> Result<(), Stop>
-    ensures put { OnOk result (body.new.items ≡ body.old.items ++ little_bytes 4 word) }
+fn put_word(log: &mut Vec<u8>, word: u32) -> Result<(), Stop>
+    ensures put { OnOk result (log.new.items ≡ log.old.items ++ little_bytes 4 word) }
     ensures memory { IfErr result (λ e. e ≡ Stop.NoMemory) }
 {
     let mut bytes = [0; 4];
     LittleEndian::write_u32(&mut bytes, word);
-    body.extend_from_slice(&bytes)?;
+    log.extend_from_slice(&bytes)?;
     Ok(())
 }
 
@@ -118,8 +112,8 @@ fn byte_count(field: &[u8]) -> u32
 }
 
 // Reads a field of bytes that is all of a text, with its blank, and puts the bytes.
-fn read_bytes(text: &[u8], body: &mut Vec<u8>) -> Result<(), Stop>
-    ensures found { OnOk result (ReadsBytes text.now body.old.items body.new.items) }
+fn read_bytes(text: &[u8], log: &mut Vec<u8>) -> Result<(), Stop>
+    ensures found { OnOk result (ReadsBytes text.now log.old.items log.new.items) }
     ensures bad { IfErr result (λ e. WhenBad e ((bytes : List ℕ) → AreBytes bytes → text.now ≡ bytes_field bytes → ⊥)) }
 {
     let Some(word) = behind(b' ', text) else {
@@ -131,20 +125,20 @@ fn read_bytes(text: &[u8], body: &mut Vec<u8>) -> Result<(), Stop>
     if word == b"-".as_slice() {
         return Ok(());
     }
-    read_hex(word, body)
+    read_hex(word, log)
 }
 
 // Puts the bytes that a word in hexadecimal is.
-fn read_hex(word: &[u8], body: &mut Vec<u8>) -> Result<(), Stop>
-    ensures found { OnOk result ((bytes : List ℕ) × AreBytes bytes × (word.now ≡ encode_lower bytes) × (body.new.items ≡ body.old.items ++ bytes)) }
+fn read_hex(word: &[u8], log: &mut Vec<u8>) -> Result<(), Stop>
+    ensures found { OnOk result ((bytes : List ℕ) × AreBytes bytes × (word.now ≡ encode_lower bytes) × (log.new.items ≡ log.old.items ++ bytes)) }
     ensures bad { IfErr result (λ e. WhenBad e ((bytes : List ℕ) → AreBytes bytes → word.now ≡ encode_lower bytes → ⊥)) }
 {
     if !is_lower(word) {
         return Err(Stop::Bad);
     }
-    let from = body.len();
-    body.resize(from + word.len() / 2, 0)?;
-    if decode_from(from, word, body.as_mut_slice()) {
+    let from = log.len();
+    log.resize(from + word.len() / 2, 0)?;
+    if decode_from(from, word, log.as_mut_slice()) {
         Ok(())
     } else {
         Err(Stop::Bad)

@@ -1,16 +1,15 @@
 ghost use Rattle.std.specs.Prelude.{◌≡◌, ◌<◌, ◌+◌, ◌^◌, ℕ, List, ◌++◌, ◌∷◌, length, decimal, OnOk, IfOk, IfErr, IsTrue, MatchOption};
-ghost use Rattle.call_log.specs.Body.{fits};
 ghost use Rattle.call_log.specs.Grammar.{Frame, spell};
 ghost use Rattle.log_text.specs.Forms.{Form, form, written};
-ghost use Rattle.log_text.specs.LogText.{IsRecord, IsBadFirst, LogText, BadOnly, bare_line};
-ghost use Rattle.log_text.specs.Reading.{AreBytes, Cut, ReadsLine, WhenBad};
+ghost use Rattle.log_text.specs.LogText.{IsRecord, IsBadFirst, LogText, BadOnly, bare_line, fields as form_fields};
+ghost use Rattle.log_text.specs.Reading.{Cut, HasShape, PutsRecord, ReadsLine, StopsAt, WhenBad};
 
 use crate::fields::read_fields;
 use crate::form::{Shape, form_of};
 use crate::text_end::{Stop, TextEnd};
 use crate::word::{behind, cut, number};
-use call_log::{Item, put_call, put_end, put_header};
-use std::alloc::{AllocError, Global};
+use call_log::{close_record, open_record, put_end, put_header};
+use std::alloc::Global;
 
 const FIRST_LINE: [u8; 6] = *b"d3l1 1";
 
@@ -31,7 +30,6 @@ pub fn asm(alloc: Global, text: &[u8]) -> Result<Vec<u8>, TextEnd>
     }
     let mut log = Vec::new(alloc);
     put_header(&mut log)?;
-    let mut body = Vec::new(alloc);
     let mut rest = lines;
     let mut number = 2;
     'lines: loop {
@@ -45,7 +43,7 @@ pub fn asm(alloc: Global, text: &[u8]) -> Result<Vec<u8>, TextEnd>
             put_end(&mut log)?;
             return Ok(log);
         }
-        match put_line(&mut log, &mut body, line) {
+        match put_line(&mut log, line) {
             Ok(()) => (),
             Err(Stop::Bad) => return Err(TextEnd::Bad { line: number }),
             Err(Stop::NoMemory) => return Err(TextEnd::NoMemory),
@@ -66,8 +64,8 @@ fn next_line(text: &[u8]) -> Option<(&[u8], &[u8])>
     }
 }
 
-// Puts the record of a line behind a log. The line stands without its line feed; `body` is room for a body.
-fn put_line(log: &mut Vec<u8>, body: &mut Vec<u8>, text: &[u8]) -> Result<(), Stop>
+// Puts the record of a line behind a log. The line stands without its line feed.
+fn put_line(log: &mut Vec<u8>, text: &[u8]) -> Result<(), Stop>
     requires { length text.now < 2 ^ 32 }
     ensures found { OnOk result (ReadsLine text.now log.old.items log.new.items) }
     ensures bad { IfErr result (λ e. WhenBad e ((f : Frame) → IsRecord f → text.now ≡ bare_line f → ⊥)) }
@@ -83,10 +81,7 @@ fn put_line(log: &mut Vec<u8>, body: &mut Vec<u8>, text: &[u8]) -> Result<(), St
     let Some((kind, shape)) = kind_of(name) else {
         return Err(Stop::Bad);
     };
-    body.clear();
-    read_fields(shape, fields, body)?;
-    put_record(log, kind, context, body)?;
-    Ok(())
+    put_record(log, kind, context, shape, fields)
 }
 
 // The context that a word is.
@@ -124,18 +119,21 @@ fn shape_named(kind: u16, word: &[u8]) -> Option<Shape>
     Some(form.shape)
 }
 
-// Puts the record with this body behind a log.
-fn put_record(log: &mut Vec<u8>, kind: u16, context: u16, body: &[u8]) -> Result<(), AllocError>
-    requires whole { IsTrue (fits kind body.now) }
-    requires fit { AreBytes body.now }
-    requires small { length body.now < 2 ^ 32 }
-    ensures { OnOk result (log.new.items ≡ log.old.items ++ spell (record { kind = kind; context = context; body = body.now })) }
+// Puts the record of a kind that has these fields behind a log. Its body is read in place, so it stands nowhere else.
+fn put_record(
+    log: &mut Vec<u8>,
+    kind: u16,
+    context: u16,
+    shape: Shape,
+    fields: &[u8],
+) -> Result<(), Stop>
+    requires stops { StopsAt 32 fields.now }
+    requires small { length fields.now < 2 ^ 32 }
+    ensures found { OnOk result (PutsRecord kind context shape fields.now log.old.items log.new.items) }
+    ensures bad { IfErr result (λ e. WhenBad e ((b : List ℕ) → HasShape shape b → fields.now ≡ form_fields shape b → ⊥)) }
 {
-    let item = Item {
-        kind,
-        context,
-        at: 0,
-        body,
-    };
-    put_call(log, context, &item.call())
+    let from = open_record(log, kind, context)?;
+    read_fields(shape, fields, log)?;
+    close_record(log, from);
+    Ok(())
 }

@@ -5,7 +5,7 @@ use Rattle.log_text.specs.Reading.{HasShape}
 use Rattle.log_text.specs.declared.form.Shape.TheVariants.{Numbers}
 use Rattle.log_text.proofs.Results.{when_bad}
 use Rattle.log_text.proofs.Bodies.{length-words_of, AreWords-words_of}
-use Rattle.log_text.proofs.Shapes.{numbers_found, numbers_text, numbers_rest}
+use Rattle.log_text.proofs.Shapes.{numbers_put, numbers_text, numbers_rest}
 use Rattle.log_text.proofs.fields.read_all_numbers.Goals as goal
 
 pub returns-in_err-rest-clause-bad : goal.returns-in_err-rest-clause-bad
@@ -25,4 +25,4 @@ returns-then-not-is_empty-clause-bad c =
     cc
 
 pub returns-clause-found : goal.returns-clause-found
-returns-clause-found c = numbers_found c.args.n _ _ _ c.requires.few c.in_ok-rest.ensures.found.0 (eqb-true _ 0 (sym c.is_empty.ensures ∙ c.if-not-is_empty.false))
+returns-clause-found c = numbers_put c.args.n _ _ _ _ c.requires.few c.in_ok-rest.ensures.found.0 (eqb-true _ 0 (sym c.is_empty.ensures ∙ c.if-not-is_empty.false))

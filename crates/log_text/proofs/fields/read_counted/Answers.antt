@@ -4,7 +4,7 @@ use Rattle.log_text.specs.Reading.{HasShape}
 use Rattle.log_text.specs.declared.form.Shape.TheVariants.{Bytes}
 use Rattle.log_text.proofs.Results.{on_ok, when_bad, if_bad}
 use Rattle.log_text.proofs.Bodies.{length-words_of, AreWords-words_of, AreBytes-drop, stops_field}
-use Rattle.log_text.proofs.Shapes.{bytes_found, bytes_text, bytes_rest}
+use Rattle.log_text.proofs.Shapes.{bytes_put, bytes_text, bytes_rest}
 use Rattle.log_text.proofs.fields.read_counted.Goals as goal
 
 pub returns-in_err-rest-clause-bad : goal.returns-in_err-rest-clause-bad
@@ -19,7 +19,7 @@ returns-in_err-rest-clause-bad c =
 pub returns-clause-found : goal.returns-clause-found
 returns-clause-found c =
     on_ok c.read_bytes.result _ _
-    (λ b. bytes_found c.args.n c.byte_count.result _ _ _ _ _ c.requires.few c.requires.small c.in_ok-rest.ensures.found.0 c.in_ok-put_word.ensures.put c.byte_count.ensures b)
+    (λ b. bytes_put c.args.n c.byte_count.result _ _ _ _ _ _ c.requires.few c.requires.small c.in_ok-rest.ensures.found.0 c.in_ok-put_word.ensures.put c.byte_count.ensures b)
     c.read_bytes.ensures.found
 
 pub returns-clause-bad : goal.returns-clause-bad

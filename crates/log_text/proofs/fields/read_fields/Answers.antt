@@ -1,17 +1,13 @@
-use Rattle.std.proofs.Common.{ℕ, List, subst}
-use Rattle.log_text.specs.Reading.{HasShape, ReadsBytes}
+use Rattle.std.proofs.Common.{ℕ, List}
+use Rattle.log_text.specs.Reading.{HasShape}
 use Rattle.log_text.specs.declared.form.Shape.TheVariants.{Body}
 use Rattle.log_text.proofs.Results.{on_ok, if_bad}
-use Rattle.log_text.proofs.Shapes.{body_text, body_found}
+use Rattle.log_text.proofs.Shapes.{body_text, body_put}
 use Rattle.log_text.proofs.fields.read_fields.Goals as goal
 
 pub returns-in-Body-clause-found : goal.returns-in-Body-clause-found
 returns-in-Body-clause-found c =
-    rw c.in-Body.is (
-    on_ok c.read_bytes.result _ _
-    (λ b. body_found _ _ c.requires.small (subst (λ (l : List ℕ). ReadsBytes c.args.text.now l c.read_bytes.new.body.items) c.requires.empty b))
-    c.read_bytes.ensures.found
-    )
+    rw c.in-Body.is (on_ok c.read_bytes.result _ _ (λ b. body_put _ _ _ c.requires.small b) c.read_bytes.ensures.found)
 
 pub returns-in-Body-clause-bad : goal.returns-in-Body-clause-bad
 returns-in-Body-clause-bad c =

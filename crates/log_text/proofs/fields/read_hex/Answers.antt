@@ -13,10 +13,10 @@ returns-then-not-is_lower-clause-bad c =
 
 pub returns-then-decode_from-clause-found : goal.returns-then-decode_from-clause-found
 returns-then-decode_from-clause-found c =
-    let old : List ℕ = c.args.body.now.items in
+    let old : List ℕ = c.args.log.now.items in
     let from : ℕ = c.len-from.result in
-    let room : List ℕ = replicate (from + length c.args.word.now / 2 - vec_len c.args.body.now) 0 in
-    let len = length-replicate {A = ℕ} (from + length c.args.word.now / 2 - vec_len c.args.body.now) 0 in
+    let room : List ℕ = replicate (from + length c.args.word.now / 2 - vec_len c.args.log.now) 0 in
+    let len = length-replicate {A = ℕ} (from + length c.args.word.now / 2 - vec_len c.args.log.now) 0 in
     let d = c.decode_from.ensures.decoded c.if-decode_from.true in
     let low : lower c.args.word.now ≡ true = sym c.is_lower.ensures ∙ c.if-not-is_lower.false in
     let back = encode_sized _ _ _ d low in (

@@ -10,7 +10,7 @@ returns-in_default-number-clause-bad c =
 pub returns-clause-found : goal.returns-clause-found
 returns-clause-found c =
     let n : ℕ = c.in-Some-number.number in (
-      one_number c.args.text.now c.cut.result.1.now c.args.body.now.items c.put_word.new.body.items n (omega arith)
+      one_number c.args.text.now c.cut.result.1.now c.args.log.now.items c.put_word.new.log.items n (omega arith)
           (c.in-Some.ensures ∙ ap (λ (l : List ℕ). 32 ∷ l) (c.cut.ensures.spelled ∙ ap (λ (l : List ℕ). l ++ c.cut.result.1.now) c.in-Some-number.ensures))
           c.in_ok-put_word.ensures.put,
       c.cut.ensures.stops,

@@ -5,7 +5,7 @@ use Rattle.log_text.proofs.Results.{when_bad}
 use Rattle.log_text.proofs.fields.read_numbers.Goals as goal
 
 pub numbers-init : goal.numbers-init
-numbers-init c = (no_number c.args.text.now c.args.text.now _ _ refl c.requires.empty, c.requires.stops)
+numbers-init c = (no_number c.args.text.now c.args.text.now _ _ refl refl, c.requires.stops)
 
 pub returns-in_err-rest-clause-bad : goal.returns-in_err-rest-clause-bad
 returns-in_err-rest-clause-bad c =

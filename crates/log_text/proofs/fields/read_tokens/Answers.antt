@@ -4,7 +4,7 @@ use Rattle.log_text.specs.Reading.{HasShape}
 use Rattle.log_text.specs.declared.form.Shape.TheVariants.{Tokens}
 use Rattle.log_text.proofs.Results.{on_ok, when_bad, if_bad}
 use Rattle.log_text.proofs.Bodies.{length-words_of, AreWords-words_of, AreBytes-drop, stops_field}
-use Rattle.log_text.proofs.Shapes.{tokens_found, tokens_text, tokens_rest, tokens_whole}
+use Rattle.log_text.proofs.Shapes.{tokens_put, tokens_text, tokens_rest, tokens_whole}
 use Rattle.log_text.proofs.fields.read_tokens.Goals as goal
 
 pub returns-in_err-rest-clause-bad : goal.returns-in_err-rest-clause-bad
@@ -25,7 +25,7 @@ returns-then-byte_count-ne0-clause-bad c =
 pub returns-clause-found : goal.returns-clause-found
 returns-clause-found c =
     on_ok c.read_bytes.result _ _
-    (λ b. tokens_found _ _ _ _ c.byte_count.result c.requires.small c.in_ok-rest.ensures.found.0 c.byte_count.ensures c.if-byte_count-ne0.false b)
+    (λ b. tokens_put _ _ _ _ _ c.byte_count.result c.requires.small c.in_ok-rest.ensures.found.0 c.byte_count.ensures c.if-byte_count-ne0.false b)
     c.read_bytes.ensures.found
 
 pub returns-clause-bad : goal.returns-clause-bad

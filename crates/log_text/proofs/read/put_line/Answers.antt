@@ -1,13 +1,9 @@
-use Rattle.std.proofs.Common.{ℕ, List, drop, sym, ap, subst, ◌∙◌, arith}
-use Rattle.std.proofs.lemmas.Result.{err_from_is_err_and}
-use Rattle.std.specs.Prelude.{IsTrue}
-use Rattle.call_log.specs.Body.{fits}
+use Rattle.std.proofs.Common.{drop, sym, ap, subst, ◌∙◌, arith}
 use Rattle.call_log.specs.Grammar.{Frame}
 use Rattle.log_text.specs.declared.form.Shape.{Shape}
 use Rattle.log_text.specs.LogText.{fields, IsRecord}
-use Rattle.log_text.specs.Reading.{HasShape, ReadsBody}
-use Rattle.log_text.proofs.Results.{when_bad}
-use Rattle.log_text.proofs.CallKinds.{fit_of_form}
+use Rattle.log_text.specs.Reading.{HasShape}
+use Rattle.log_text.proofs.Results.{on_ok, if_bad}
 use Rattle.log_text.proofs.LineParts.{parts_of, context_word, name_word, shape_word, record_read}
 use Rattle.log_text.proofs.read.put_line.Goals as goal
 
@@ -27,29 +23,22 @@ returns-in_default-kind_of-clause-bad c =
     let name = name_word f p _ _ _ c.cut-2.ensures (ap (drop 1) (sym c.in-Some-behind.ensures ∙ rest)) in
     c.in_default-kind_of.ensures f.kind p.form_is p.is (sym name.0)
 
-pub returns-in_err-read_fields-clause-bad : goal.returns-in_err-read_fields-clause-bad
-returns-in_err-read_fields-clause-bad c =
-    let e = err_from_is_err_and c.from_residual.result c.from_residual.ensures.1 in
-    rw (e.1, e.2) (
-    when_bad c.in_err-read_fields.field-0.0 _ _
+pub returns-clause-bad : goal.returns-clause-bad
+returns-clause-bad c =
+    if_bad c.put_record.result _ _
     (λ none (f : Frame) (r : IsRecord f) is.
     let p = parts_of f r in
     let rest = (context_word f _ _ _ r c.cut.ensures is).1 p in
     let name = name_word f p _ _ _ c.cut-2.ensures (ap (drop 1) (sym c.in-Some-behind.ensures ∙ rest)) in
     let shape = shape_word f p _ _ _ c.in-Some-kind_of.ensures name.0 in
     none f.body (subst (λ (s : Shape). HasShape s f.body) shape p.shaped) (name.1 ∙ ap (λ (s : Shape). fields s f.body) shape))
-    c.in_err-read_fields.ensures.bad
-    )
-
-pub put_record-requires-clause-whole : goal.put_record-requires-clause-whole
-put_record-requires-clause-whole c =
-    subst (λ (b : List ℕ). IsTrue (fits c.in-Some-kind_of.kind b)) (sym c.deref.ensures.value)
-    (fit_of_form c.in-Some-kind_of.kind _ _ c.in-Some-kind_of.ensures c.in_ok-read_fields.ensures.found.shaped.fits)
+    c.put_record.ensures.bad
 
 pub returns-clause-found : goal.returns-clause-found
 returns-clause-found c =
-    let body : ReadsBody c.in-Some-kind_of.shape c.cut-2.result.1.now c.deref.result.now =
-    subst (λ (b : List ℕ). ReadsBody c.in-Some-kind_of.shape c.cut-2.result.1.now b) (sym c.deref.ensures.value) c.in_ok-read_fields.ensures.found in
-    record_read c.in-Some-kind_of.kind c.in-Some.context c.deref.result.now c.args.text.now c.cut.result.0.now c.cut.result.1.now c.in-Some-behind.rest.now c.cut-2.result.0.now
+    on_ok c.put_record.result _ _
+    (λ p.
+    record_read c.in-Some-kind_of.kind c.in-Some.context p.body c.args.text.now c.cut.result.0.now c.cut.result.1.now c.in-Some-behind.rest.now c.cut-2.result.0.now
     c.cut-2.result.1.now c.args.log.now.items c.put_record.new.log.items c.in-Some-kind_of.shape (omega arith)
-    c.cut.ensures c.in-Some.ensures c.in-Some-behind.ensures c.cut-2.ensures c.in-Some-kind_of.ensures body c.in_ok-put_record.ensures
+    c.cut.ensures c.in-Some.ensures c.in-Some-behind.ensures c.cut-2.ensures c.in-Some-kind_of.ensures p.reads p.put)
+    c.put_record.ensures.found
