@@ -1,0 +1,7 @@
+pub mod Accesses
+pub mod Acted
+pub mod Actions
+pub mod Frames
+pub mod Lanes
+pub mod Threads
+pub mod Walks

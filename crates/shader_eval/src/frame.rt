@@ -1,46 +1,41 @@
-// The temporaries of an invocation.
+// What an invocation keeps while it runs.
 
-ghost use Rattle.std.specs.Prelude.{◌≡◌, ◌+◌, ◌*◌, ◌≤◌, ◌<◌, replicate, length, slice_index, IfOk, Some};
-ghost use Rattle.shader_model.specs.Invocation.{with_component, with_target};
+ghost use Rattle.std.specs.Prelude.{◌≡◌, length, replicate, IfOk};
+ghost use Rattle.shader_eval.specs.Frames.{IsFor};
 
-use shader_model::{Shader, Target};
+use crate::temps::Temps;
+use shader_model::Shader;
 use std::alloc::{AllocError, Global};
 
-/// The words of the temporaries, four each. It is made once for a shader, and begun anew for each invocation.
+/// How many turns an invocation's loops have together.
+const TURNS: u32 = 4096;
+
+/// The temporaries of an invocation, and how many turns its loops have left. It is made once for a shader, and serves
+/// one invocation after another.
 #[derive(Drop)]
 pub struct Frame {
-    pub temps: Vec<u32>,
+    pub(crate) temps: Temps,
+    pub(crate) turns: u32,
 }
 
 impl Frame {
     /// A frame for the invocations of a shader.
     pub fn new(alloc: Global, shader: &Shader) -> Result<Frame, AllocError>
-        ensures { IfOk result (λ frame. frame.temps.items ≡ replicate (4 * shader.now.temps) 0) }
+        ensures { IfOk result (λ frame. IsFor frame shader.now) }
     {
-        let temps = vec![in alloc; 0; 4 * shader.temps() as usize]?;
-        Ok(Frame { temps })
+        let temps = Temps::new(alloc, shader.temps())?;
+        Ok(Frame {
+            temps,
+            turns: TURNS,
+        })
     }
 
-    /// Sets the components of a temporary that a target's mask has.
-    pub fn set(&mut self, target: &Target, values: [u32; 4])
-        requires { 4 * target.now.index + 4 ≤ length self.old.temps.items }
-        ensures { self.new.temps.items ≡ with_target (Some target.now) (λ c. slice_index values c) self.old.temps.items }
+    /// Begins an invocation: all temporaries are 0, and all turns are left.
+    pub(crate) fn begin(&mut self)
+        ensures temps { self.new.temps ≡ replicate (length self.old.temps) 0 }
+        ensures turns { self.new.turns ≡ 4096 }
     {
-        self.set_one(target, 0, values[0]);
-        self.set_one(target, 1, values[1]);
-        self.set_one(target, 2, values[2]);
-        self.set_one(target, 3, values[3]);
-    }
-
-    /// Sets one component of a temporary, where a target's mask has it.
-    fn set_one(&mut self, target: &Target, component: u32, value: u32)
-        requires component { component < 4 }
-        requires place { 4 * target.now.index + 4 ≤ length self.old.temps.items }
-        ensures set { self.new.temps.items ≡ with_component target.now (λ c. value) component self.old.temps.items }
-        ensures length { length self.new.temps.items ≡ length self.old.temps.items }
-    {
-        if (target.mask as u32 >> component) % 2 == 1 {
-            self.temps[4 * target.index as usize + component as usize] = value;
-        }
+        self.temps.clear();
+        self.turns = TURNS;
     }
 }

@@ -1,263 +1,204 @@
-use crate::arithmetic::{
-    added, five, inserted, inverted, left, multiplied_and_added, negated, ones, product_low,
-    quotient, remainder, reversed, right, signed_field, signed_high, signed_lt, signed_max,
-    signed_min, signed_right, truth, unsigned_field, unsigned_high,
-};
+mod computes;
+mod shaders;
 
-/// Two numbers with their sum, the low half of their product and its high halves with and without sign, quotient and
-/// remainder, the lesser and the greater with sign, the first shifted by the second to the left and to the right with and
-/// without sign, and whether it is below it with sign.
-#[derive(Drop)]
-struct Pair(u32, u32, [u32; 12]);
+use crate::{Frame, run_groups};
+use computes::{ATOMICS, Atomic, COMPUTES, Computes, OLD, SOURCES, VALUES};
+use shader_model::Shader;
+use shader_slots::{Slots, Whole};
+use shader_tokens::{ShaderEnd, decode};
+use shaders::{GROUPED, Runs, SHADERS};
+use std::alloc::{AllocError, Global};
+use std::test::Fail;
 
-/// A number with its negative, its inverse, its bits in the other order and how many are set.
-#[derive(Drop)]
-struct Word(u32, [u32; 4]);
-
-/// A field's width and first bit and two numbers, with the first one's field without and with sign, and the second one with
-/// the first in its field.
-#[derive(Drop)]
-struct Field(u32, u32, u32, u32, [u32; 3]);
-
-static PAIRS: [Pair; 20] = [
-    Pair(0, 0, [0, 0, 0, 0, 0xffffffff, 0xffffffff, 0, 0, 0, 0, 0, 0]),
-    Pair(
-        1,
-        0x1f,
-        [
-            0x20, 0x1f, 0, 0, 0, 1, 1, 0x1f, 0x80000000, 0, 0, 0xffffffff,
-        ],
-    ),
-    Pair(
-        0x1f,
-        0x20,
-        [
-            0x3f, 0x3e0, 0, 0, 0, 0x1f, 0x1f, 0x20, 0x1f, 0x1f, 0x1f, 0xffffffff,
-        ],
-    ),
-    Pair(
-        0x20,
-        0x21,
-        [
-            0x41, 0x420, 0, 0, 0, 0x20, 0x20, 0x21, 0x40, 0x10, 0x10, 0xffffffff,
-        ],
-    ),
-    Pair(
-        0x21,
-        1,
-        [0x22, 0x21, 0, 0, 0x21, 0, 1, 0x21, 0x42, 0x10, 0x10, 0],
-    ),
-    Pair(
-        0x7fffffff,
-        0x7fffffff,
-        [
-            0xfffffffe, 1, 0x3fffffff, 0x3fffffff, 1, 0, 0x7fffffff, 0x7fffffff, 0x80000000, 0, 0,
-            0,
-        ],
-    ),
-    Pair(
-        0x7fffffff,
-        0x80000000,
-        [
-            0xffffffff, 0x80000000, 0xc0000000, 0x3fffffff, 0, 0x7fffffff, 0x80000000, 0x7fffffff,
-            0x7fffffff, 0x7fffffff, 0x7fffffff, 0,
-        ],
-    ),
-    Pair(
-        0x80000000,
-        0x7fffffff,
-        [
-            0xffffffff, 0x80000000, 0xc0000000, 0x3fffffff, 1, 1, 0x80000000, 0x7fffffff, 0,
-            0xffffffff, 1, 0xffffffff,
-        ],
-    ),
-    Pair(
-        0x80000000,
-        0x80000000,
-        [
-            0, 0, 0x40000000, 0x40000000, 1, 0, 0x80000000, 0x80000000, 0x80000000, 0x80000000,
-            0x80000000, 0,
-        ],
-    ),
-    Pair(
-        0x80000000,
-        0xffffffff,
-        [
-            0x7fffffff, 0x80000000, 0, 0x7fffffff, 0, 0x80000000, 0x80000000, 0xffffffff, 0,
-            0xffffffff, 1, 0xffffffff,
-        ],
-    ),
-    Pair(
-        0xffffffff,
-        0x80000000,
-        [
-            0x7fffffff, 0x80000000, 0, 0x7fffffff, 1, 0x7fffffff, 0x80000000, 0xffffffff,
-            0xffffffff, 0xffffffff, 0xffffffff, 0,
-        ],
-    ),
-    Pair(
-        0xffffffff,
-        0xffffffff,
-        [
-            0xfffffffe, 1, 0, 0xfffffffe, 1, 0, 0xffffffff, 0xffffffff, 0x80000000, 0xffffffff, 1,
-            0,
-        ],
-    ),
-    Pair(
-        0xffffffff,
-        1,
-        [
-            0, 0xffffffff, 0xffffffff, 0, 0xffffffff, 0, 0xffffffff, 1, 0xfffffffe, 0xffffffff,
-            0x7fffffff, 0xffffffff,
-        ],
-    ),
-    Pair(
-        1,
-        0xffffffff,
-        [
-            0, 0xffffffff, 0xffffffff, 0, 0, 1, 0xffffffff, 1, 0x80000000, 0, 0, 0,
-        ],
-    ),
-    Pair(
-        0x7fffffff,
-        0x1f,
-        [
-            0x8000001e, 0x7fffffe1, 0xf, 0xf, 0x4210842, 1, 0x1f, 0x7fffffff, 0x80000000, 0, 0, 0,
-        ],
-    ),
-    Pair(
-        0x80000000,
-        0x1f,
-        [
-            0x8000001f, 0x80000000, 0xfffffff0, 0xf, 0x4210842, 2, 0x80000000, 0x1f, 0, 0xffffffff,
-            1, 0xffffffff,
-        ],
-    ),
-    Pair(
-        0x80000000,
-        0x21,
-        [
-            0x80000021, 0x80000000, 0xffffffef, 0x10, 0x3e0f83e, 2, 0x80000000, 0x21, 0,
-            0xc0000000, 0x40000000, 0xffffffff,
-        ],
-    ),
-    Pair(
-        0xffffffff,
-        0,
-        [
-            0xffffffff, 0, 0, 0, 0xffffffff, 0xffffffff, 0xffffffff, 0, 0xffffffff, 0xffffffff,
-            0xffffffff, 0xffffffff,
-        ],
-    ),
-    Pair(
-        0x12345678,
-        0x9abcdef0,
-        [
-            0xacf13568, 0x242d2080, 0xf8cc93d6, 0xb00ea4e, 0, 0x12345678, 0x9abcdef0, 0x12345678,
-            0x56780000, 0x1234, 0x1234, 0,
-        ],
-    ),
-    Pair(
-        0xdeadbeef,
-        0x21,
-        [
-            0xdeadbf10, 0xb4659ccf, 0xfffffffb, 0x1c, 0x6bf7264, 0xb, 0xdeadbeef, 0x21, 0xbd5b7dde,
-            0xef56df77, 0x6f56df77, 0xffffffff,
-        ],
-    ),
+/// The generator's counter shader: it adds 1 to the counter (input[thread] + constant) mod 256.
+static COUNTER: [u32; 63] = [
+    0x401, 0x40, 1, 1, 0x202, 1, 0x203, 0, 0x404, 0, 0, 0, 0x405, 0, 0, 0, 0x820, 0x10, 3, 1, 2, 0,
+    0, 0, 0x430, 0x10, 0, 0, 0x512, 0x10, 0, 2, 0, 0x81c, 0x10, 0, 1, 0xff, 0, 0, 0, 0x820, 0x10,
+    0, 1, 2, 0, 0, 0, 0xe38, 7, 0x100, 0, 1, 0, 0, 0, 0, 1, 1, 0, 0, 0,
 ];
 
-static WORDS: [Word; 9] = [
-    Word(0, [0, 0xffffffff, 0, 0]),
-    Word(1, [0xffffffff, 0xfffffffe, 0x80000000, 1]),
-    Word(0x1f, [0xffffffe1, 0xffffffe0, 0xf8000000, 5]),
-    Word(0x20, [0xffffffe0, 0xffffffdf, 0x4000000, 1]),
-    Word(0x21, [0xffffffdf, 0xffffffde, 0x84000000, 2]),
-    Word(0x7fffffff, [0x80000001, 0x80000000, 0xfffffffe, 0x1f]),
-    Word(0x80000000, [0x80000000, 0x7fffffff, 1, 1]),
-    Word(0xffffffff, [1, 0, 0xffffffff, 0x20]),
-    Word(0x12345678, [0xedcba988, 0xedcba987, 0x1e6a2c48, 0xd]),
-];
+/// The bytes of words.
+fn bytes_of(alloc: Global, words: &[u32]) -> Result<Vec<u8>, AllocError> {
+    let mut bytes = Vec::new(alloc);
+    for word in words {
+        bytes.extend_from_slice(&word.to_le_bytes())?;
+    }
+    Ok(bytes)
+}
 
-static FIELDS: [Field; 12] = [
-    Field(0, 0, 0xffffffff, 0, [0, 0, 0]),
-    Field(1, 0, 1, 0xfffffffe, [1, 0xffffffff, 0xffffffff]),
-    Field(1, 31, 1, 0x7fffffff, [0, 0, 0xffffffff]),
-    Field(
-        31,
-        0,
-        0x7fffffff,
-        0x80000000,
-        [0x7fffffff, 0xffffffff, 0xffffffff],
-    ),
-    Field(31, 1, 0x80000001, 1, [0x40000000, 0xc0000000, 3]),
-    Field(8, 8, 0xff80, 0, [0xff, 0xffffffff, 0x8000]),
-    Field(16, 16, 0x80001234, 0xffff, [0x8000, 0xffff8000, 0x1234ffff]),
-    Field(
-        20,
-        20,
-        0xabcdef12,
-        0xabcdef12,
-        [0xabc, 0xfffffabc, 0xf12def12],
-    ),
-    Field(31, 31, 0x80000000, 0, [1, 0xffffffff, 0]),
-    Field(4, 28, 0xf0000000, 0xfffffff, [0xf, 0xffffffff, 0xfffffff]),
-    Field(
-        5,
-        26,
-        0x7c000000,
-        0xffffffff,
-        [0x1f, 0xffffffff, 0x83ffffff],
-    ),
-    Field(0, 31, 0xffffffff, 0x55555555, [0, 0, 0x55555555]),
-];
+/// The shader of these items.
+fn shader_of(alloc: Global, items: &[u32]) -> Result<Shader, ShaderEnd> {
+    let count = u32::try_from(items.len()).unwrap_or(0).wrapping_add(2);
+    let mut bytes = bytes_of(alloc, &[1, count])?;
+    bytes.extend_from_slice(&bytes_of(alloc, items)?)?;
+    decode(alloc, &bytes)
+}
+
+/// What a dispatch finds in slot 0 of the constant buffers, the resources and the unordered access views.
+#[derive(Clone, Copy)]
+struct Bound<'a> {
+    constants: &'a [u8],
+    reads: &'a [u8],
+    writes: &'a [u8],
+}
+
+/// How many invocations ran, and the bytes of unordered access view 0 afterwards.
+fn ran(
+    alloc: Global,
+    shader: &Shader,
+    groups: [u32; 3],
+    bound: Bound<'_>,
+) -> Result<Option<(u64, Vec<u8>)>, AllocError> {
+    let mut frame = Frame::new(alloc, shader)?;
+    let mut slots = Slots::new();
+    if bound.constants.len() % 4 == 0 && bound.constants.len() <= 65_536 {
+        slots.bind_constant(0, bound.constants);
+    }
+    if bound.reads.len() % 4 == 0 && bound.reads.len() <= 65_536 {
+        slots.bind_read(0, bound.reads);
+    }
+    let bytes = bound.writes.to_vec(alloc)?;
+    let len = bytes.len();
+    if len % 4 != 0 || len > 65_536 {
+        return Ok(None);
+    }
+    slots.bind_write(0, Whole::new(bytes, 0, len));
+    let count = run_groups(shader, groups, &mut frame, &mut slots);
+    match slots.take_write(0) {
+        Some(part) => Ok(Some((count, part.into_bytes()))),
+        None => Ok(None),
+    }
+}
+
+/// The words of unordered access view 0 after a dispatch, as bytes; none where it could not be bound.
+fn left(
+    alloc: Global,
+    items: &[u32],
+    groups: [u32; 3],
+    words: [&[u32]; 3],
+) -> Result<Vec<u8>, Fail> {
+    let shader = shader_of(alloc, items)?;
+    let constants = bytes_of(alloc, words[0])?;
+    let reads = bytes_of(alloc, words[1])?;
+    let writes = bytes_of(alloc, words[2])?;
+    let bound = Bound {
+        constants: &constants,
+        reads: &reads,
+        writes: &writes,
+    };
+    match ran(alloc, &shader, groups, bound)? {
+        Some((_, bytes)) => Ok(bytes),
+        None => Ok(Vec::new(alloc)),
+    }
+}
+
+/// A shader that stores, one behind the other, what an instruction computes of each row of the sources.
+fn computing(alloc: Global, case: &Computes) -> Result<Vec<u32>, AllocError> {
+    let Computes(first, destinations, sources, _) = case;
+    let mut items = [0x401, 1, 1, 1, 0x202, 2, 0x405, 0, 0, 0].to_vec(alloc)?;
+    let mut address: u32 = 0;
+    for row in &SOURCES {
+        items.push(*first)?;
+        items.extend_from_slice(if *destinations == 2 {
+            &[0xf0, 0x100f0]
+        } else {
+            &[0xf0]
+        })?;
+        for source in row.iter().take(*sources) {
+            items.push(0xe41)?;
+            items.extend_from_slice(source)?;
+        }
+        for target in [0xe40, 0x10e40].iter().take(*destinations) {
+            items.extend_from_slice(&[0xf0831, 0x100, 1, address, 0, 0, 0, *target])?;
+            address = address.wrapping_add(16);
+        }
+    }
+    Ok(items)
+}
+
+/// A shader of four atomics, which stores the old words behind the new ones.
+fn changing(alloc: Global, first: u32) -> Result<Vec<u32>, AllocError> {
+    let mut items = [0x401, 1, 1, 1, 0x202, 1, 0x405, 0, 0, 0].to_vec(alloc)?;
+    let mut address: u32 = 0;
+    for (value, target) in VALUES.iter().zip([0x10, 0x20, 0x40, 0x80].iter()) {
+        items.extend_from_slice(&[first, *target, 0x100])?;
+        for source in [address, 0, *value] {
+            items.extend_from_slice(&[1, source, 0, 0, 0])?;
+        }
+        address = address.wrapping_add(4);
+    }
+    items.extend_from_slice(&[0xf0831, 0x100, 1, 16, 0, 0, 0, 0xe40])?;
+    Ok(items)
+}
 
 #[test]
-fn arithmetic(rt: HostRuntime) {
-    for Pair(x, y, want) in &PAIRS {
-        assert_eq!(rt; &computed(*x, *y), want, "at {x} and {y}");
+fn instructions_compute(rt: HostRuntime) -> Result<(), Fail> {
+    let alloc = rt.alloc();
+    for case in &COMPUTES {
+        let items = computing(alloc, case)?;
+        let bytes = left(alloc, &items, [1, 1, 1], [&[], &[], case.3])?;
+        assert_eq!(rt; bytes, bytes_of(alloc, case.3)?, "of {}", case.0);
     }
-    for Word(x, want) in &WORDS {
-        let x = *x;
-        assert_eq!(rt;
-            &[negated(x), inverted(x), reversed(x), ones(x)],
-            want,
-            "at {x}"
-        );
+    for Atomic(first, new) in &ATOMICS {
+        let mut words = OLD.to_vec(alloc)?;
+        words.extend_from_slice(&[0, 0, 0, 0])?;
+        let items = changing(alloc, *first)?;
+        let bytes = left(alloc, &items, [1, 1, 1], [&[], &[], &words])?;
+        let mut want = bytes_of(alloc, new)?;
+        want.extend_from_slice(&bytes_of(alloc, &OLD)?)?;
+        assert_eq!(rt; bytes, want, "of {first}");
     }
-    for Field(w, o, a, b, want) in &FIELDS {
-        assert_eq!(rt;
-            &cut_and_put(*w, *o, *a, *b),
-            want,
-            "at {w} bits from {o} of {a} and {b}"
-        );
-    }
-    assert_eq!(rt; multiplied_and_added(0xffff_ffff, 3, 4), 1);
+    Ok(())
 }
 
-fn computed(x: u32, y: u32) -> [u32; 12] {
-    let k = five(y);
-    [
-        added(x, y),
-        product_low(x, y),
-        signed_high(x, y),
-        unsigned_high(x, y),
-        quotient(x, y),
-        remainder(x, y),
-        signed_min(x, y),
-        signed_max(x, y),
-        left(x, k),
-        signed_right(x, k),
-        right(x, k),
-        truth(signed_lt(x, y)),
-    ]
+#[test]
+fn shaders_leave(rt: HostRuntime) -> Result<(), Fail> {
+    let alloc = rt.alloc();
+    for Runs(name, items, constants, reads, writes, want) in &SHADERS {
+        let bytes = left(alloc, items, [1, 1, 1], [constants, reads, writes])?;
+        assert_eq!(rt; bytes, bytes_of(alloc, want)?, "{name}");
+    }
+    for Runs(name, items, constants, reads, writes, want) in &GROUPED {
+        let bytes = left(alloc, items, [2, 1, 2], [constants, reads, writes])?;
+        assert_eq!(rt; bytes, bytes_of(alloc, want)?, "{name}");
+    }
+    Ok(())
 }
 
-fn cut_and_put(w: u32, o: u32, a: u32, b: u32) -> [u32; 3] {
-    let (w, o) = (five(w), five(o));
-    [
-        unsigned_field(w, o, a),
-        signed_field(w, o, a),
-        inserted(w, o, a, b),
-    ]
+/// The counters of threads 0 to 63, whose inputs are their numbers and whose constant is 250, after three groups of them.
+#[test]
+fn counters(rt: HostRuntime) -> Result<(), Fail> {
+    let alloc = rt.alloc();
+    let shader = shader_of(alloc, &COUNTER)?;
+    let mut input = Vec::new(alloc);
+    let mut zeros = Vec::new(alloc);
+    let mut want = Vec::new(alloc);
+    for k in 0..64u32 {
+        input.push(k)?;
+    }
+    for k in 0..256u32 {
+        zeros.push(0u32)?;
+        want.push(if k < 58 || k >= 250 { 3u32 } else { 0 })?;
+    }
+    let constants = bytes_of(alloc, &[250, 0, 0, 0])?;
+    let reads = bytes_of(alloc, &input)?;
+    let writes = bytes_of(alloc, &zeros)?;
+    let bound = Bound {
+        constants: &constants,
+        reads: &reads,
+        writes: &writes,
+    };
+    for (groups, count) in [
+        ([1, 3, 1], 192),
+        ([1, 1, 3], 192),
+        ([0, 1, 1], 0),
+        ([65_536, 1, 1], 0),
+        ([65_535, 5, 1], 0),
+    ] {
+        let (ran, bytes) = ran(alloc, &shader, groups, bound)?.expect(&rt, "the view");
+        assert_eq!(rt; ran, count);
+        let want = if count == 0 { &zeros } else { &want };
+        assert_eq!(rt; bytes, bytes_of(alloc, want)?);
+    }
+    Ok(())
 }

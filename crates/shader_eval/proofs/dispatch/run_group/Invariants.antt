@@ -1,0 +1,13 @@
+use Rattle.std.proofs.Common.{◌≡◌}
+use Rattle.shader_model.specs.Shader.{program_of}
+use Rattle.shader_model.specs.Dispatch.{run_all}
+use Rattle.shader_eval.specs.Frames.{IsFor}
+use Rattle.shader_eval.specs.Walks.{along, plane_at}
+use Rattle.shader_eval.proofs.dispatch.run_group.Given as goal
+
+abbrev pub invariant-loop-z : goal.invariant-loop-z
+invariant-loop-z l = record {
+  words : l.slots.words ≡ run_all (program_of l.shader) (along l.z (plane_at l.group l.shader.group)) l.initial.slots.words;
+  around : l.slots.around ≡ l.initial.slots.around;
+  made : IsFor l.frame l.shader;
+}

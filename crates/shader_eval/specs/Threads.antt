@@ -1,0 +1,17 @@
+-- The limits of a dispatch.
+use Rattle.std.specs.Prelude.{ℕ, ◌<◌, List, slice_index}
+use Rattle.shader_model.specs.declared.ids.Ids.{Ids}
+
+-- each of x, y and z is below that of a size
+abbrev pub IsBelow : (place size : List ℕ) → Type 0
+IsBelow place size = (c : ℕ) → c < 3 → slice_index place c < slice_index size c
+
+-- each of x, y and z is below a limit
+abbrev pub AllBelow : (limit : ℕ) → List ℕ → Type 0
+AllBelow limit place = (c : ℕ) → c < 3 → slice_index place c < limit
+
+-- ids so small that no number made of them passes 32 bits
+pub record IsThread (ids : Ids) : Type 0 where
+  pub size : AllBelow 1025 ids.size
+  pub thread : AllBelow 1025 ids.thread
+  pub group : AllBelow 65536 ids.group
