@@ -1,0 +1,9 @@
+//! Counts of invocations, added up between the marks of queries.
+#![tactic(auto)]
+
+mod queries;
+
+pub use queries::{Begun, Count, Ended, Queries};
+
+#[cfg(test)]
+mod tests;
