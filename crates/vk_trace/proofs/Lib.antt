@@ -1,0 +1,13 @@
+pub mod Cuts
+pub mod Splits
+pub mod Digits
+pub mod Hex
+pub mod Spelled
+pub mod Above
+pub mod Masks
+pub mod Works
+pub mod Results
+pub mod Ops
+pub mod Texts
+pub mod Written
+pub mod Spelling

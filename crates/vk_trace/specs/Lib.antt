@@ -1,0 +1,3 @@
+pub mod ListText
+pub mod Reading
+pub mod Writing
