@@ -1,0 +1,150 @@
+//! The core as a machine: how the items of a log are cut into chunks, the states and steps of its six parts, and what holds
+//! in every run. The functions here are empty: each is named for a law, which its clauses state.
+#![tactic(auto)]
+
+ghost use Rattle.std.specs.Prelude.{◌≡◌, ℕ, Bool, true, false, Option, List, [], ◌∷◌, ◌++◌};
+ghost use Rattle.dx_types.specs.declared.range.Range.{Range};
+ghost use Rattle.vk_types.specs.Covered.{Covered};
+ghost use Rattle.vk_types.specs.declared.op.VkOp.{VkOp};
+ghost use Rattle.vk_types.specs.Effects.{Meaning};
+ghost use Rattle.vk_types.specs.Entries.{EntriesCovered, EntriesKeep, run_entries, start_counts};
+ghost use Rattle.vk_types.specs.Listing.{acts};
+ghost use Rattle.vk_types.specs.Allowed.{IsAllowed, outcome};
+ghost use Rattle.vk_types.specs.Lists.{IsReordering};
+ghost use Rattle.vk_types.specs.Memory.{zeros};
+ghost use Rattle.vk_types.specs.RunListing.{IsRunListing, SameOrder};
+ghost use Rattle.core_model.specs.Script.{Destroy, Create_shader, Mark_query, Set_state, Ask, Constant, Turn, Asked, Item, is_plain, Script};
+ghost use Rattle.core_model.specs.Chunking.{is_due, cut, chunks};
+ghost use Rattle.core_model.specs.CoreState.{Core, start, flat, rests, on_device, listed, done, Still_said, End_said};
+ghost use Rattle.core_model.specs.Adding.{with_turn, with_reply};
+ghost use Rattle.core_model.specs.Readings.{Reading, Any_choices, First_choices, may_hand_over};
+ghost use Rattle.core_model.specs.AppActs.{TakesTurn, is_finished, used_or_zero, handed_over};
+ghost use Rattle.core_model.specs.CoreStep.{Event, is_of_app, Step, CoreStep};
+ghost use Rattle.core_model.specs.Free.{FreeSteps, FreeRun};
+ghost use Rattle.core_model.specs.Stands.{FreeIsIdle};
+ghost use Rattle.core_model.specs.TakingPosts.{TakesPosts, with_fence};
+ghost use Rattle.core_model.specs.Runs.{IsRun};
+ghost use Rattle.core_model.specs.RunReads.{ReadsStaging, listed_entries};
+ghost use Rattle.core_model.specs.Listed.{plain_entries};
+ghost use Rattle.core_model.specs.Lawful.{IsLawful};
+ghost use Rattle.core_model.specs.Invariant.{turns_of, handed, commands_of, IsSized, IsBounded, Good};
+ghost use Rattle.core_model.specs.WorkedLogs.{no_shaders, update_copy_map, PlaysUpdateCopyMap, PlaysFiveBuffers};
+
+/// What the definitions give for two small logs: the whole run, with its replies and its listing. The first log is all that
+/// the checks of the calls make sure of, so what is asked of a script can be met.
+pub fn worked_logs()
+    ensures lawful { IsLawful no_shaders update_copy_map }
+    ensures update_copy_map { PlaysUpdateCopyMap }
+    ensures five_buffers { PlaysFiveBuffers }
+{}
+
+/// A law of choices. A step with the choices of the core that is stepped is a step with free choices, its Finish one with the
+/// steps behind it that bring the blocks home, and its runs are runs of such steps.
+pub fn first_choices_are_free()
+    ensures step { (meaning : Meaning) (script : Script) (old : Core) (e : Event) (new : Core)
+        → Step meaning First_choices script old e new → Step meaning Any_choices script old e new }
+    ensures core_step { (meaning : Meaning) (script : Script) (old : Core) (e : Event) (new : Core)
+        → CoreStep meaning script old e new → FreeSteps meaning script old e new }
+    ensures run { (meaning : Meaning) (script : Script) (schedule : List ℕ) (new : Core)
+        → IsRun meaning script schedule new → FreeRun meaning script (start script) new }
+{}
+
+/// Laws of the listing of a run: that has the barriers which its hazards cause, numbers its submits and keeps each batch
+/// whole. The counts of its acts order what its masks and fences order. Where they order each conflicting pair, and the host
+/// reads staging blocks alone, the listing is covered.
+pub fn counts_order_runs()
+    ensures alike { (staging : ℕ → Bool) (contents : List (List ℕ)) (ops : List VkOp)
+        → IsRunListing staging ops → SameOrder contents ops }
+    ensures covered { (staging : ℕ → Bool) (contents : List (List ℕ)) (ops : List VkOp)
+        → IsRunListing staging ops → ReadsStaging staging ops → EntriesCovered (listed_entries contents ops) → Covered ops }
+{}
+
+/// The invariant of runs holds as one begins, and these steps keep it, by any choice and in each reading: App takes posts, hands
+/// a chunk over, goes past calls that add no entry, answers a call as pending or by a constant, takes an item that creates a
+/// shader, marks a query, only binds or destroys a buffer, or ends; and each step of each other part.
+pub fn steps_keep_the_invariant()
+    ensures start { (meaning : Meaning) (reading : Reading) (script : Script) → Good meaning reading script (start script) }
+    ensures posts { (meaning : Meaning) (reading : Reading) (script : Script) (n : ℕ) (old mid : Core)
+        → TakesPosts n old mid → Good meaning reading script old → Good meaning reading script (with_fence n mid) }
+    ensures hand_over { (meaning : Meaning) (reading : Reading) (script : Script) (old : Core)
+        → may_hand_over reading old ≡ true → is_due script old.open_chunk.turns old.future ≡ true
+        → Good meaning reading script old → Good meaning reading script (handed_over old) }
+    ensures turns { (meaning : Meaning) (reading : Reading) (script : Script) (old : Core) (turn : Turn) (turns : List Turn) (new : Core)
+        → is_plain turn ≡ true → old.future ≡ turn ∷ turns → is_due script old.open_chunk.turns old.future ≡ false
+        → TakesTurn reading script turn turns old new
+        → Good meaning reading script old → Good meaning reading script new }
+    ensures pending { (meaning : Meaning) (reading : Reading) (script : Script) (old : Core)
+        (call : ℕ) (ask : Ask) (used : Option ℕ) (may_pend : Bool) (turns : List Turn)
+        → old.future ≡ Asked call ask used may_pend ∷ turns → is_due script old.open_chunk.turns old.future ≡ false
+        → is_finished used (done old) ≡ false → Good meaning reading script old
+        → Good meaning reading script (with_reply (Still_said call (used_or_zero used) (done old)) (with_turn (Asked call ask used may_pend) turns old)) }
+    ensures constants { (meaning : Meaning) (reading : Reading) (script : Script) (old : Core)
+        (call value : ℕ) (used : Option ℕ) (may_pend : Bool) (turns : List Turn) (new : Core)
+        → old.future ≡ Asked call (Constant value) used may_pend ∷ turns → is_due script old.open_chunk.turns old.future ≡ false
+        → TakesTurn reading script (Asked call (Constant value) used may_pend) turns old new
+        → Good meaning reading script old → Good meaning reading script new }
+    ensures shaders { (meaning : Meaning) (reading : Reading) (script : Script) (old : Core)
+        (call item : ℕ) (ends : Bool) (bound : List Range) (turns : List Turn) (new : Core)
+        → old.future ≡ Item call item ends Create_shader bound ∷ turns → is_due script old.open_chunk.turns old.future ≡ false
+        → TakesTurn reading script (Item call item ends Create_shader bound) turns old new
+        → Good meaning reading script old → Good meaning reading script new }
+    ensures queries { (meaning : Meaning) (reading : Reading) (script : Script) (old : Core)
+        (call item : ℕ) (ends : Bool) (query : ℕ) (begins : Bool) (bound : List Range) (turns : List Turn) (new : Core)
+        → old.future ≡ Item call item ends (Mark_query query begins) bound ∷ turns
+        → is_due script old.open_chunk.turns old.future ≡ false
+        → TakesTurn reading script (Item call item ends (Mark_query query begins) bound) turns old new
+        → Good meaning reading script old → Good meaning reading script new }
+    ensures bindings { (meaning : Meaning) (reading : Reading) (script : Script) → IsLawful meaning script → (old : Core)
+        (call item : ℕ) (ends : Bool) (bound : List Range) (turns : List Turn) (new : Core)
+        → old.future ≡ Item call item ends Set_state bound ∷ turns → is_due script old.open_chunk.turns old.future ≡ false
+        → TakesTurn reading script (Item call item ends Set_state bound) turns old new
+        → Good meaning reading script old → Good meaning reading script new }
+    ensures destroys { (meaning : Meaning) (reading : Reading) (script : Script) (old : Core)
+        (call item : ℕ) (ends : Bool) (buffer : ℕ) (bound : List Range) (turns : List Turn) (new : Core)
+        → old.future ≡ Item call item ends (Destroy buffer) bound ∷ turns
+        → is_due script old.open_chunk.turns old.future ≡ false
+        → TakesTurn reading script (Item call item ends (Destroy buffer) bound) turns old new
+        → Good meaning reading script old → Good meaning reading script new }
+    ensures ended { (meaning : Meaning) (reading : Reading) (script : Script) (old : Core)
+        → Good meaning reading script old → Good meaning reading script (with_reply End_said (record old { ended = true })) }
+    ensures others { (meaning : Meaning) (reading : Reading) (script : Script) (old : Core) (e : Event) (new : Core)
+        → is_of_app e ≡ false → Step meaning reading script old e new
+        → Good meaning reading script old → Good meaning reading script new }
+{}
+
+/// What the invariant says of each state. The chunks that were handed over, and what is cut of the rest, are the script's, and
+/// no queue is longer than it may be. No block at home or on its way home, and no page that came back, is in the touches
+/// of a command that is not finished. The listing, with the open chunk's operations behind it, is a run's, and its acts are the
+/// state's entries, whose counts order what its masks and fences order. It is covered, so that every order that it allows leaves
+/// the memory, and gives the host the bytes, that its own order does. The commands that were run and those that are left are
+/// those that the device accepted, each once, and keep what is ordered; where none is left, the device holds what the
+/// listing's order leaves, whichever ready commands were run.
+pub fn states_are_lawful()
+    ensures chunks { (meaning : Meaning) (reading : Reading) (script : Script) (core : Core)
+        → Good meaning reading script core
+        → chunks script ≡ turns_of (handed core) ++ cut script core.open_chunk.turns core.future }
+    ensures places { (meaning : Meaning) (reading : Reading) (script : Script) (core : Core)
+        → Good meaning reading script core → IsSized reading core × IsBounded reading core }
+    ensures idle { (meaning : Meaning) (reading : Reading) (script : Script) (core : Core)
+        → Good meaning reading script core → FreeIsIdle core }
+    ensures listing { (meaning : Meaning) (reading : Reading) (script : Script) (core : Core)
+        → Good meaning reading script core → IsRunListing core.is_staging (core.listing ++ core.open_chunk.ops) }
+    ensures covered { (meaning : Meaning) (reading : Reading) (script : Script) (core : Core)
+        → Good meaning reading script core → Covered (core.listing ++ core.open_chunk.ops) }
+    ensures alike { (meaning : Meaning) (reading : Reading) (script : Script) (core : Core)
+        → Good meaning reading script core → SameOrder core.contents (core.listing ++ core.open_chunk.ops) }
+    ensures entries { (meaning : Meaning) (reading : Reading) (script : Script) (core : Core)
+        → Good meaning reading script core
+        → plain_entries start_counts core.contents (core.listing ++ core.open_chunk.ops) ≡ listed core }
+    ensures orders { (meaning : Meaning) (reading : Reading) (script : Script) (core : Core)
+        → Good meaning reading script core → (order : List ℕ) → IsAllowed (core.listing ++ core.open_chunk.ops) order
+        → outcome meaning core.contents (core.listing ++ core.open_chunk.ops) order
+        ≡ outcome meaning core.contents (core.listing ++ core.open_chunk.ops) (acts (core.listing ++ core.open_chunk.ops)) }
+    ensures each_once { (meaning : Meaning) (reading : Reading) (script : Script) (core : Core)
+        → Good meaning reading script core → IsReordering (commands_of (on_device core)) (core.ran ++ rests core.accepted) }
+    ensures order { (meaning : Meaning) (reading : Reading) (script : Script) (core : Core)
+        → Good meaning reading script core → EntriesKeep (core.ran ++ rests core.accepted) }
+    ensures memory { (meaning : Meaning) (reading : Reading) (script : Script) (core : Core)
+        → Good meaning reading script core → rests core.accepted ≡ []
+        → core.memory ≡ run_entries meaning (flat (on_device core)) zeros }
+{}
