@@ -9,6 +9,7 @@ mod table;
 
 pub use end::TableEnd;
 pub use laws::creations_are_checked_in_order;
+pub use refusals::{has_bit, is_id};
 pub use table::Table;
 
 #[cfg(test)]

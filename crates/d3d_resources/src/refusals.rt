@@ -27,13 +27,15 @@ const MAX_CONSTANT_SIZE: u64 = 65_536;
 
 const MAX_STRIDE: u32 = 2_048;
 
-pub(crate) fn has_bit(bits: u32, bit: u32) -> bool
+/// Whether the bit of this value is set.
+pub fn has_bit(bits: u32, bit: u32) -> bool
     ensures { result ≡ has bits bit }
 {
     bits & bit != 0
 }
 
-pub(crate) fn is_id(id: u32) -> bool
+/// Whether an object may have this id: it is from 1 to 65,535.
+pub fn is_id(id: u32) -> bool
     ensures { result ≡ is_id id }
 {
     0 < id && id < 65_536

@@ -104,7 +104,7 @@ impl Table {
     }
 
     /// Why a buffer of this shape can't be created under this id.
-    fn refusal(&self, id: u32, shape: &Shape) -> Option<Refusal>
+    pub fn refusal(&self, id: u32, shape: &Shape) -> Option<Refusal>
         ensures { result ≡ first_failed (table_checks self.now id shape.now) }
     {
         if !is_id(id) {

@@ -1,10 +1,11 @@
 ghost use Rattle.std.specs.Prelude.{◌≡◌, ◌<◌, None, IfOk, slice_index_or};
 ghost use Rattle.d3d_model.specs.Binding as model;
-ghost use Rattle.d3d_model.specs.Binding.{default_bindings, holds_buffer, holds_query, holds_shader, holds_view};
+ghost use Rattle.std.specs.Option.{option_to_list};
+ghost use Rattle.d3d_model.specs.Binding.{predicate_range, default_bindings, holds_buffer, holds_query, holds_shader, holds_view};
 ghost use Rattle.d3d_views.specs.Limits.{EndFits, WordFits};
 ghost use Rattle.d3d_views.specs.Meaning.{meaning};
 
-use crate::ranges::{constant_range, push_constants, push_views, push_word};
+use crate::ranges::{constant_range, push_constants, push_views, push_word, word_range};
 use crate::slots::{any_beside, any_constant_of, any_view, any_view_of, empty_beside};
 use crate::{BoundView, Predicate};
 use dx_types::ResRange;
@@ -159,6 +160,13 @@ impl Bindings {
         ensures { meaning result ≡ self.now.predicate }
     {
         self.predicate
+    }
+
+    /// The word that the predicate reads, if it reads one.
+    pub fn predicate_word(&self) -> Option<ResRange>
+        ensures { option_to_list result ≡ predicate_range self.now.predicate }
+    {
+        word_range(self.predicate)
     }
 
     /// Whether a buffer is set: in a constant slot, through a view, or as the predicate's.

@@ -1,5 +1,6 @@
 ghost use Rattle.std.specs.Prelude.{◌≡◌, ◌+◌, ◌^◌, ◌<◌, ◌++◌, OnOk};
 ghost use Rattle.std.specs.List.{All, filter_map};
+ghost use Rattle.std.specs.Option.{option_to_list};
 ghost use Rattle.d3d_model.specs.Binding.{constant_range, bound_range, predicate_range};
 ghost use Rattle.d3d_model.specs.View.{view_end, view_range};
 ghost use Rattle.d3d_views.specs.Limits.{EndFits, WordFits};
@@ -72,16 +73,27 @@ pub(crate) fn push_views(
 }
 
 /// The predicate's word, if it has one.
+pub(crate) fn word_range(predicate: Predicate) -> Option<ResRange>
+    requires { WordFits (meaning predicate) }
+    ensures { option_to_list result ≡ predicate_range (meaning predicate) }
+{
+    match predicate {
+        Predicate::Word { res, offset, .. } => Some(ResRange {
+            res,
+            from: offset,
+            to: offset + 4,
+        }),
+        Predicate::Never | Predicate::Query { .. } => None,
+    }
+}
+
+/// The predicate's word, if it has one.
 pub(crate) fn push_word(ranges: &mut Vec<ResRange>, predicate: Predicate) -> Result<(), AllocError>
     requires { WordFits (meaning predicate) }
     ensures { OnOk result (ranges.new.items ≡ ranges.old.items ++ predicate_range (meaning predicate)) }
 {
-    if let Predicate::Word { res, offset, .. } = predicate {
-        ranges.push(ResRange {
-            res,
-            from: offset,
-            to: offset + 4,
-        })?;
+    if let Some(range) = word_range(predicate) {
+        ranges.push(range)?;
     }
     Ok(())
 }
