@@ -1,0 +1,50 @@
+-- The deferred contexts set nothing, and no list names anything.
+use Rattle.std.proofs.Common.{◌≡◌, ℕ, zero, suc, Bool, true, false, ◌||◌, [], ◌∷◌, replicate, refl, ◌∙◌}
+use Rattle.std.specs.List.{list_any}
+use Rattle.d3d_model.specs.Binding.{Bindings, default_bindings}
+use Rattle.d3d_model.specs.D3dState.{Context, default_context}
+use Rattle.d3d_model.specs.IdMap.{empty, values}
+use Rattle.d3d_model.specs.Stream.{list_names, is_listed}
+use Rattle.d3d_model.specs.Verdict.{is_set}
+use Rattle.d3d_state.specs.Codes.{Views, Queries}
+use Rattle.d3d_model.specs.Resource.{Buffers}
+use Rattle.d3d_state.specs.Meaning.{unused_contexts, objects_from}
+
+none_of : (test : Context → Bool) (n : ℕ) → test default_context ≡ false → list_any test (replicate n default_context) ≡ false
+none_of test zero e = refl
+none_of test (suc n) e = rw e (none_of test n e)
+
+none_unused : (test : Context → Bool) → test default_context ≡ false → list_any test unused_contexts ≡ false
+unfolding unused_contexts
+none_unused test e = none_of test 16 e
+
+or_none : (a b : Bool) → b ≡ false → a || b ≡ a
+or_none true b e = refl
+or_none false b e = e
+
+-- what is set on the immediate context alone is set
+pub set_here : (buffers : Buffers) (views : Views) (queries : Queries) (b : Bindings) (test : Bindings → Bool) → test default_bindings ≡ false
+    → is_set (objects_from buffers views queries b) test ≡ test b
+set_here buffers views queries b test e = or_none (test b) _ (none_unused (λ x. test x.bindings) e)
+
+-- no list names an object
+pub not_listed : (buffers : Buffers) (views : Views) (queries : Queries) (b : Bindings) (class id : ℕ)
+    → is_listed (objects_from buffers views queries b) class id ≡ false
+unfolding values empty
+not_listed buffers views queries b class id = rw (none_unused (λ x. list_names class id x.recorded) refl) refl
+
+-- no deferred context and no list uses an object
+pub used_here : (buffers : Buffers) (views : Views) (queries : Queries) (b : Bindings) (test : Bindings → Bool) (class id : ℕ) → test default_bindings ≡ false
+    → is_set (objects_from buffers views queries b) test || is_listed (objects_from buffers views queries b) class id ≡ test b
+used_here buffers views queries b test class id e =
+    or_none _ _ (not_listed buffers views queries b class id) ∙ set_here buffers views queries b test e
+
+-- no context is used
+pub unused_all : (b : Bindings) → b ≡ default_bindings → record { bindings = b; recorded = [] } ∷ unused_contexts ≡ replicate 17 default_context
+unfolding unused_contexts
+unused_all b e = rw e refl
+
+-- what is not used in these ways is used only in one more
+pub only_more : (used here more : Bool) → used ≡ here → here ≡ false → more ≡ used || more
+only_more true here more e f = absurd cc
+only_more false here more e f = refl

@@ -1,0 +1,16 @@
+//! The objects that are live, as the checks of calls ask for them: buffers, views, queries, and what is set on the
+//! immediate context.
+#![tactic(auto)]
+
+mod objects;
+mod queries;
+mod query;
+mod views;
+
+pub use objects::Objects;
+pub use queries::Queries;
+pub use query::{Query, Sort};
+pub use views::Views;
+
+#[cfg(test)]
+mod tests;

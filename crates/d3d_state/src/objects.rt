@@ -1,0 +1,260 @@
+ghost use Rattle.std.specs.Prelude.{◌≡◌};
+
+use crate::{Queries, Query, Views};
+use d3d_resources::{Table, TableEnd};
+use d3d_views::{Bindings, BoundView, Predicate};
+use dx_types::{CallNo, Refusal, Shape, ViewShape};
+use std::alloc::{AllocError, Global};
+
+/// What is live, and what is set on the immediate context. No shader and no command list is live yet, so no shader is set,
+/// and the deferred contexts are in the default state.
+#[derive(Drop)]
+pub struct Objects {
+    buffers: Table,
+    views: Views,
+    queries: Queries,
+    bindings: Bindings,
+    ghost no_shader: { bindings.shader ≡ 0 },
+}
+
+// What the checks ask.
+impl Objects {
+    ghost use Rattle.std.specs.Prelude.{◌≡◌, ◌<◌, ◌^◌, ◌||◌, IfSome};
+    ghost use Rattle.d3d_model.specs.Binding.{holds_buffer, holds_query, holds_view};
+    ghost use Rattle.d3d_model.specs.Check.{first_failed};
+    ghost use Rattle.d3d_model.specs.D3dState as model;
+    ghost use Rattle.d3d_model.specs.D3dState.{bindings_of, bound_view, buffer_of, no_objects};
+    ghost use Rattle.d3d_model.specs.IdMap as ids;
+    ghost use Rattle.d3d_model.specs.Stream.{is_listed};
+    ghost use Rattle.d3d_model.specs.Verdict.{has_view, is_set, query_is};
+    ghost use Rattle.d3d_model.specs.View.{view_end};
+    ghost use Rattle.d3d_resources.specs.Creation.{table_checks};
+    ghost use Rattle.d3d_state.specs.Meaning.{objects_of};
+    ghost use Rattle.d3d_views.specs.Limits.{EndFits};
+
+    /// Nothing is live, and nothing is set.
+    pub fn new(alloc: Global) -> Objects
+        ensures { objects_of result ≡ no_objects }
+    {
+        Objects {
+            buffers: Table::new(alloc),
+            views: Views::new(alloc),
+            queries: Queries::new(alloc),
+            bindings: Bindings::new(),
+        }
+    }
+
+    /// The shape of a live buffer.
+    pub fn buffer(&self, id: u32) -> Option<Shape>
+        ensures { result ≡ buffer_of (objects_of self.now) id }
+    {
+        self.buffers.shape(id)
+    }
+
+    /// Why a buffer of this shape can't be created under this id, by its id, its shape and what is live.
+    pub fn buffer_refusal(&self, id: u32, shape: &Shape) -> Option<Refusal>
+        ensures { result ≡ first_failed (table_checks (objects_of self.now).buffers id shape.now) }
+    {
+        self.buffers.refusal(id, shape)
+    }
+
+    /// The shape of a live view.
+    pub fn view(&self, id: u32) -> Option<ViewShape>
+        ensures value { result ≡ ids.get (objects_of self.now).views id }
+        ensures end { IfSome result (λ v. view_end v < 2 ^ 64) }
+    {
+        self.views.shape(id)
+    }
+
+    /// What a slot holds once a view is set by its id: nothing for id 0.
+    pub fn bound_view(&self, id: u32) -> Option<BoundView>
+        ensures value { result ≡ bound_view (objects_of self.now) id }
+        ensures end { EndFits result }
+    {
+        if id == 0 {
+            return None;
+        }
+        let shape = self.views.shape(id)?;
+        Some(BoundView { view: id, shape })
+    }
+
+    /// A live query.
+    pub fn query(&self, id: u32) -> Option<Query>
+        ensures { result ≡ ids.get (objects_of self.now).queries id }
+    {
+        self.queries.get(id)
+    }
+
+    /// What is set on the immediate context.
+    pub fn bindings(&self) -> &Bindings
+        ensures set { result.now ≡ bindings_of (objects_of self.now) 0 }
+        ensures no_shader { result.now.shader ≡ 0 }
+    {
+        &self.bindings
+    }
+
+    /// Whether a buffer may not be destroyed: it is set, it has a live view, or a command list names it.
+    pub fn uses_buffer(&self, id: u32) -> bool
+        ensures { let o = objects_of self.now in
+            result ≡ (is_set o (λ b. holds_buffer b id) || is_listed o 1 id || has_view o id) }
+    {
+        self.bindings.holds(id) || self.views.has_of(id)
+    }
+
+    /// Whether a view may not be destroyed: it is set, or a command list names it.
+    pub fn uses_view(&self, id: u32) -> bool
+        ensures { let o = objects_of self.now in
+            result ≡ (is_set o (λ b. holds_view b id) || is_listed o 2 id) }
+    {
+        self.bindings.holds_view(id)
+    }
+
+    /// Whether a query may not be destroyed: it is the predicate's, it is begun, or a command list names it.
+    pub fn uses_query(&self, id: u32) -> bool
+        ensures { let o = objects_of self.now in
+            result ≡ (is_set o (λ b. holds_query b id) || is_listed o 4 id || query_is o id (λ q. q.begun)) }
+    {
+        self.bindings.holds_query(id) || self.is_begun(id)
+    }
+
+    /// Whether a live query is begun on the immediate context.
+    pub fn is_begun(&self, id: u32) -> bool
+        ensures { result ≡ query_is (objects_of self.now) id (λ q. q.begun) }
+    {
+        match self.queries.get(id) {
+            Some(query) => query.begun,
+            None => false,
+        }
+    }
+}
+
+// What accepted calls change.
+impl Objects {
+    ghost use Rattle.std.specs.Prelude.{◌≡◌, ℕ, ◌+◌, ◌<◌, ◌^◌, None, OnErr, OnOk};
+    ghost use Rattle.call_log.specs.Call as calls;
+    ghost use Rattle.d3d_model.specs.Check.{first_failed};
+    ghost use Rattle.d3d_model.specs.D3dState.{bindings_of, with_bindings};
+    ghost use Rattle.d3d_model.specs.Effect.{destroyed, objects_after};
+    ghost use Rattle.d3d_model.specs.Binding.{set_predicate};
+    ghost use Rattle.d3d_model.specs.IdMap as ids;
+    ghost use Rattle.d3d_model.specs.View.{view_end};
+    ghost use Rattle.d3d_resources.specs.Creation.{table_checks};
+    ghost use Rattle.d3d_state.specs.Meaning.{objects_of, with_buffer, with_query, with_view};
+    ghost use Rattle.d3d_views.specs.Limits.{WordFits};
+    ghost use Rattle.d3d_views.specs.Meaning.{meaning};
+
+    /// One more buffer is live. Want of memory changes nothing.
+    pub fn create_buffer(&mut self, id: u32, shape: Shape) -> Result<(), AllocError>
+        requires { first_failed (table_checks (objects_of self.old).buffers id shape) ≡ None }
+        ensures created { OnOk result (objects_of self.new ≡ with_buffer (objects_of self.old) id shape) }
+        ensures unchanged { OnErr result (objects_of self.new ≡ objects_of self.old) }
+    {
+        match self.buffers.create(id, shape) {
+            Ok(()) => Ok(()),
+            Err(TableEnd::NoMemory) => Err(AllocError),
+            Err(TableEnd::Refused(_)) => unreachable!(),
+        }
+    }
+
+    /// One more view is live. Want of memory changes nothing.
+    pub fn create_view(&mut self, id: u32, shape: ViewShape) -> Result<(), AllocError>
+        requires free { ids.get (objects_of self.old).views id ≡ None }
+        requires end { view_end shape < 2 ^ 64 }
+        ensures created { OnOk result (objects_of self.new ≡ with_view (objects_of self.old) id shape) }
+        ensures unchanged { OnErr result (objects_of self.new ≡ objects_of self.old) }
+    {
+        self.views.insert(id, shape)
+    }
+
+    /// One more query is live. Want of memory changes nothing.
+    pub fn create_query(&mut self, id: u32, query: Query) -> Result<(), AllocError>
+        ensures created { OnOk result (objects_of self.new ≡ with_query (objects_of self.old) id query) }
+        ensures unchanged { OnErr result (objects_of self.new ≡ objects_of self.old) }
+    {
+        self.queries.insert(id, query)
+    }
+
+    /// A buffer is live no more.
+    pub fn destroy_buffer(&mut self, id: u32)
+        ensures { objects_of self.new ≡ destroyed (objects_of self.old) 1 id }
+    {
+        let _ = self.buffers.remove(id);
+    }
+
+    /// A view is live no more.
+    pub fn destroy_view(&mut self, id: u32)
+        ensures { objects_of self.new ≡ destroyed (objects_of self.old) 2 id }
+    {
+        let _ = self.views.remove(id);
+    }
+
+    /// A query is live no more.
+    pub fn destroy_query(&mut self, id: u32)
+        ensures { objects_of self.new ≡ destroyed (objects_of self.old) 4 id }
+    {
+        self.queries.remove(id);
+    }
+
+    /// Sets no shader: none is live.
+    pub fn set_no_shader(&mut self)
+        ensures { (n : ℕ) → objects_of self.new ≡ objects_after n (objects_of self.old) 0 (calls.SetShader 0) }
+    {
+        self.bindings.set_shader(0);
+    }
+
+    /// Sets a buffer in a constant slot, from 0 to 13; id 0 empties it.
+    pub fn set_constant(&mut self, slot: u32, res: u32)
+        requires { slot < 14 }
+        ensures { (n : ℕ) → objects_of self.new ≡ objects_after n (objects_of self.old) 0 (calls.SetConstant slot res) }
+    {
+        self.bindings.set_constant(slot as usize, res);
+    }
+
+    /// Sets a live view in a shader resource slot, from 0 to 15; id 0 empties it.
+    pub fn set_srv(&mut self, slot: u32, view: u32)
+        requires { slot < 16 }
+        ensures { (n : ℕ) → objects_of self.new ≡ objects_after n (objects_of self.old) 0 (calls.SetSrv slot view) }
+    {
+        let bound = self.bound_view(view);
+        self.bindings.set_srv(slot as usize, bound);
+    }
+
+    /// Sets a live view in an unordered access slot, from 0 to 7; id 0 empties it.
+    pub fn set_uav(&mut self, slot: u32, view: u32)
+        requires { slot < 8 }
+        ensures { (n : ℕ) → objects_of self.new ≡ objects_after n (objects_of self.old) 0 (calls.SetUav slot view) }
+    {
+        let bound = self.bound_view(view);
+        self.bindings.set_uav(slot as usize, bound);
+    }
+
+    /// Empties all slots, and sets no predication.
+    pub fn clear_state(&mut self)
+        ensures { (n : ℕ) → objects_of self.new ≡ objects_after n (objects_of self.old) 0 calls.ClearState }
+    {
+        self.bindings.clear();
+    }
+
+    /// Sets the predicate of the calls that are predicated.
+    pub fn set_predicate(&mut self, predicate: Predicate)
+        requires { WordFits (meaning predicate) }
+        ensures { let o = objects_of self.old in
+            objects_of self.new ≡ with_bindings o 0 (set_predicate (bindings_of o 0) (meaning predicate)) }
+    {
+        self.bindings.set_predicate(predicate);
+    }
+
+    /// A live query begins.
+    pub fn begin(&mut self, query: u32)
+        ensures { (n : ℕ) → objects_of self.new ≡ objects_after n (objects_of self.old) 0 (calls.Begin query) }
+    {
+        self.queries.begin(query);
+    }
+
+    /// Call n ends a live query.
+    pub fn end(&mut self, query: u32, n: CallNo)
+        ensures { objects_of self.new ≡ objects_after n (objects_of self.old) 0 (calls.EndQuery query) }
+    {
+        self.queries.end(query, n);
+    }
+}
