@@ -1,0 +1,5 @@
+pub mod Passes
+pub mod NoEffect
+pub mod BoundRanges
+pub mod Unasked
+pub mod Kept

@@ -1,0 +1,4 @@
+pub mod Asked
+pub mod NewViews
+pub mod Accepted
+pub mod Bound

@@ -1,0 +1,62 @@
+ghost use Rattle.std.specs.Prelude.{◌≡◌};
+ghost use Rattle.call_log.specs.Call as calls;
+ghost use Rattle.d3d_checks.specs.Asked.{refusal_of};
+ghost use Rattle.d3d_model.specs.Past.{Past};
+ghost use Rattle.d3d_state.specs.Meaning.{objects_of};
+
+use d3d_resources::is_id;
+use d3d_state::Objects;
+use dx_types::Refusal;
+
+/// Why a query is not created.
+pub(crate) fn create_query_refusal(objects: &Objects, id: u32, sort: u32) -> Option<Refusal>
+    ensures { (past : Past) → result ≡ refusal_of (objects_of objects.now) past (calls.Query id sort) }
+{
+    if !is_id(id) {
+        Some(Refusal::OutOfRange)
+    } else if objects.query(id).is_some() {
+        Some(Refusal::IdInUse)
+    } else if sort > 3 {
+        Some(Refusal::BadUsage)
+    } else {
+        None
+    }
+}
+
+/// Why a query does not begin.
+pub(crate) fn begin_refusal(objects: &Objects, id: u32) -> Option<Refusal>
+    ensures { (past : Past) → result ≡ refusal_of (objects_of objects.now) past (calls.Begin id) }
+{
+    match objects.query(id) {
+        None => Some(Refusal::UnknownId),
+        Some(query) if query.is_event() || query.begun => Some(Refusal::QueryState),
+        Some(_) => None,
+    }
+}
+
+/// Why a query does not end.
+pub(crate) fn end_refusal(objects: &Objects, id: u32) -> Option<Refusal>
+    ensures { (past : Past) → result ≡ refusal_of (objects_of objects.now) past (calls.EndQuery id) }
+{
+    match objects.query(id) {
+        None => Some(Refusal::UnknownId),
+        Some(query) if !query.is_event() && !query.begun => Some(Refusal::QueryState),
+        Some(_) => None,
+    }
+}
+
+/// Why a query's result may not be asked for.
+pub(crate) fn get_data_refusal(objects: &Objects, id: u32, flag: u32) -> Option<Refusal>
+    ensures { (past : Past) → result ≡ refusal_of (objects_of objects.now) past (calls.GetData id flag) }
+{
+    let Some(query) = objects.query(id) else {
+        return Some(Refusal::UnknownId);
+    };
+    if flag > 1 {
+        Some(Refusal::BadUsage)
+    } else if !query.has_result() {
+        Some(Refusal::QueryState)
+    } else {
+        None
+    }
+}

@@ -1,0 +1,134 @@
+ghost use Rattle.std.specs.Prelude.{◌≡◌, ◌∷◌, [], not};
+ghost use Rattle.call_log.specs.Call as calls;
+ghost use Rattle.d3d_checks.specs.Asked.{refusal_of};
+ghost use Rattle.d3d_checks.specs.NewViews.{shape_checks, view_call};
+ghost use Rattle.d3d_model.specs.Check.{first_failed};
+ghost use Rattle.d3d_model.specs.Past.{Past};
+ghost use Rattle.d3d_model.specs.Resource.{usage_from};
+ghost use Rattle.d3d_resources.specs.Creation.{creation_checks, is_wrong_usage, is_wrong_data};
+ghost use Rattle.d3d_views.specs.Creation.{is_wrong_form};
+ghost use Rattle.d3d_state.specs.Meaning.{objects_of};
+
+use crate::new_view::{NewView, described};
+use d3d_resources::is_id;
+use d3d_state::Objects;
+use d3d_views::{lacks_bind, view_span};
+use dx_types::{Refusal, Shape};
+
+const LAST_USAGE: u32 = 3;
+
+const IMMUTABLE: u32 = 1;
+
+/// Whether no usage has this number, or an immutable buffer would have no data.
+fn is_wrong_usage(usage: u32, bytes: &[u8]) -> bool
+    ensures { result ≡ is_wrong_usage usage bytes.now }
+{
+    usage > LAST_USAGE || (usage == IMMUTABLE && bytes.is_empty())
+}
+
+/// Whether there is data, of another length than the buffer's.
+fn is_wrong_data(size: u64, bytes: &[u8]) -> bool
+    ensures { result ≡ is_wrong_data size bytes.now }
+{
+    !bytes.is_empty() && bytes.len() as u64 != size
+}
+
+/// Why a buffer is not created. `usage` is its usage's number, and `bytes` the data that it begins with, if it has some.
+pub(crate) fn buffer_refusal(
+    objects: &Objects,
+    id: u32,
+    usage: u32,
+    shape: &Shape,
+    bytes: &[u8],
+) -> Option<Refusal>
+    requires { shape.now.usage ≡ usage_from usage }
+    ensures { result ≡ first_failed (creation_checks (objects_of objects.now).buffers id shape.now.size usage
+        shape.now.bind shape.now.misc shape.now.stride bytes.now) }
+{
+    if !is_id(id) {
+        Some(Refusal::OutOfRange)
+    } else if objects.buffer(id).is_some() {
+        Some(Refusal::IdInUse)
+    } else if is_wrong_usage(usage, bytes) {
+        Some(Refusal::BadUsage)
+    } else if is_wrong_data(shape.size, bytes) {
+        Some(Refusal::BadSize)
+    } else {
+        objects.buffer_refusal(id, shape)
+    }
+}
+
+/// Why a view is not created.
+pub(crate) fn view_refusal(objects: &Objects, ask: &NewView) -> Option<Refusal>
+    ensures { (past : Past) → result ≡ refusal_of (objects_of objects.now) past (view_call ask.now) }
+{
+    if !is_id(ask.view) {
+        return Some(Refusal::OutOfRange);
+    }
+    let Some(shape) = objects.buffer(ask.res) else {
+        return Some(Refusal::UnknownId);
+    };
+    if objects.view(ask.view).is_some() {
+        return Some(Refusal::IdInUse);
+    }
+    shape_refusal(&shape, ask)
+}
+
+/// Why a view is not created on a buffer of this shape.
+fn shape_refusal(shape: &Shape, ask: &NewView) -> Option<Refusal>
+    ensures { result ≡ first_failed (shape_checks shape.now ask.now) }
+{
+    if ask.kind > 1 {
+        return Some(Refusal::BadBind);
+    }
+    if is_wrong_form(ask.form, ask.components) {
+        return Some(if lacks_bind(shape, ask.kind == 1) {
+            Refusal::BadBind
+        } else {
+            Refusal::BadFormat
+        });
+    }
+    match view_span(shape, &described(shape, ask)) {
+        Ok(_) => None,
+        Err(why) => Some(why),
+    }
+}
+
+/// Whether no form has this number, or the components don't go with it: a typed element has 1, 2 or 4.
+fn is_wrong_form(form: u32, components: u32) -> bool
+    ensures { result ≡ is_wrong_form form components }
+{
+    match form {
+        0 | 1 => components != 0,
+        2 => !matches!(components, 1 | 2 | 4),
+        _ => true,
+    }
+}
+
+/// Why an object is not destroyed. Its class is 1 for a buffer, 2 for a view, 3 for a shader, 4 for a query, and 5 for a
+/// command list; no shader and no list is live.
+pub(crate) fn destroy_refusal(objects: &Objects, class: u32, id: u32) -> Option<Refusal>
+    ensures { (past : Past) → result ≡ refusal_of (objects_of objects.now) past (calls.Destroy class id) }
+{
+    match class {
+        1 => refusal_if(objects.buffer(id).is_some(), objects.uses_buffer(id)),
+        2 => refusal_if(objects.view(id).is_some(), objects.uses_view(id)),
+        3 => Some(Refusal::UnknownId),
+        4 => refusal_if(objects.query(id).is_some(), objects.uses_query(id)),
+        5 => Some(Refusal::UnknownList),
+        _ => Some(Refusal::BadUsage),
+    }
+}
+
+// Why an object is not destroyed, by whether it is live, and whether it is in use.
+fn refusal_if(live: bool, used: bool) -> Option<Refusal>
+    ensures { result ≡ first_failed ((not live, Refusal.UnknownId) ∷ (used, Refusal.IdInUse) ∷ []) }
+{
+    if !live {
+        Some(Refusal::UnknownId)
+    } else if used {
+        Some(Refusal::IdInUse)
+    } else {
+        None
+    }
+}

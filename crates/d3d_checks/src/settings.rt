@@ -1,0 +1,138 @@
+ghost use Rattle.std.specs.Prelude.{◌≡◌, ℕ};
+ghost use Rattle.call_log.specs.Call as calls;
+ghost use Rattle.d3d_checks.specs.Asked.{refusal_of};
+ghost use Rattle.d3d_model.specs.Check.{first_failed};
+ghost use Rattle.d3d_model.specs.Past.{Past};
+ghost use Rattle.d3d_model.specs.Verdict.{predicate_checks};
+ghost use Rattle.d3d_state.specs.Meaning.{objects_of};
+
+use crate::numbers::{CONSTANT_BUFFER, INDIRECT_ARGUMENTS, passes_end};
+use d3d_resources::has_bit;
+use d3d_state::Objects;
+use dx_types::Refusal;
+
+const LAST_CONSTANT_SLOT: u32 = 13;
+
+const LAST_SRV_SLOT: u32 = 15;
+
+const LAST_UAV_SLOT: u32 = 7;
+
+/// The bytes of a predicate's word.
+const WORD_BYTES: u64 = 4;
+
+/// Why a shader is not set: none is live, so only the id 0 is taken.
+pub(crate) fn shader_refusal(objects: &Objects, id: u32) -> Option<Refusal>
+    ensures { (past : Past) → result ≡ refusal_of (objects_of objects.now) past (calls.SetShader id) }
+{
+    if id == 0 {
+        None
+    } else {
+        Some(Refusal::UnknownId)
+    }
+}
+
+/// Why a buffer is not set in a constant slot.
+pub(crate) fn constant_refusal(objects: &Objects, slot: u32, res: u32) -> Option<Refusal>
+    ensures { (past : Past) → result ≡ refusal_of (objects_of objects.now) past (calls.SetConstant slot res) }
+{
+    if slot > LAST_CONSTANT_SLOT {
+        return Some(Refusal::OutOfRange);
+    }
+    if res == 0 {
+        return None;
+    }
+    match objects.buffer(res) {
+        None => Some(Refusal::UnknownId),
+        Some(shape) if !has_bit(shape.bind, CONSTANT_BUFFER) => Some(Refusal::BadBind),
+        Some(_) => None,
+    }
+}
+
+/// Why a view is not set in a shader resource slot.
+pub(crate) fn srv_refusal(objects: &Objects, slot: u32, view: u32) -> Option<Refusal>
+    ensures { (past : Past) → result ≡ refusal_of (objects_of objects.now) past (calls.SetSrv slot view) }
+{
+    if slot > LAST_SRV_SLOT {
+        return Some(Refusal::OutOfRange);
+    }
+    if view == 0 {
+        return None;
+    }
+    match objects.view(view) {
+        None => Some(Refusal::UnknownId),
+        Some(shape) if shape.writable => Some(Refusal::BadBind),
+        Some(_) => None,
+    }
+}
+
+/// Why a view is not set in an unordered access slot.
+pub(crate) fn uav_refusal(objects: &Objects, slot: u32, view: u32) -> Option<Refusal>
+    ensures { (past : Past) → result ≡ refusal_of (objects_of objects.now) past (calls.SetUav slot view) }
+{
+    if slot > LAST_UAV_SLOT {
+        return Some(Refusal::OutOfRange);
+    }
+    if view == 0 {
+        return None;
+    }
+    match objects.view(view) {
+        None => Some(Refusal::UnknownId),
+        Some(shape) if !shape.writable => Some(Refusal::BadBind),
+        Some(_) => None,
+    }
+}
+
+/// Why a predicate is not set: of kind 0 none, of kind 1 a query, of kind 2 a word of a buffer.
+pub(crate) fn predication_refusal(
+    objects: &Objects,
+    kind: u32,
+    id: u32,
+    offset: u32,
+    value: u32,
+) -> Option<Refusal>
+    ensures { (past : Past) → result ≡ refusal_of (objects_of objects.now) past (calls.SetPredication kind id offset value) }
+{
+    if kind > 2 {
+        Some(Refusal::BadUsage)
+    } else if value > 1 || (kind == 0 && !(id == 0 && offset == 0 && value == 0)) {
+        Some(Refusal::OutOfRange)
+    } else if kind == 1 {
+        query_refusal(objects, id, offset)
+    } else if kind == 2 {
+        word_refusal(objects, id, offset)
+    } else {
+        None
+    }
+}
+
+/// Why a query is no predicate.
+fn query_refusal(objects: &Objects, id: u32, offset: u32) -> Option<Refusal>
+    ensures { result ≡ first_failed (predicate_checks (objects_of objects.now) 1 id offset) }
+{
+    let Some(query) = objects.query(id) else {
+        return Some(Refusal::UnknownId);
+    };
+    if !(query.is_predicate() && query.has_result()) {
+        Some(Refusal::QueryState)
+    } else if offset != 0 {
+        Some(Refusal::OutOfRange)
+    } else {
+        None
+    }
+}
+
+/// Why a word of a buffer is no predicate.
+fn word_refusal(objects: &Objects, res: u32, offset: u32) -> Option<Refusal>
+    ensures { result ≡ first_failed (predicate_checks (objects_of objects.now) 2 res offset) }
+{
+    let Some(shape) = objects.buffer(res) else {
+        return Some(Refusal::UnknownId);
+    };
+    if !has_bit(shape.misc, INDIRECT_ARGUMENTS) {
+        Some(Refusal::BadBind)
+    } else if offset % 4 != 0 || passes_end(&shape, offset, WORD_BYTES) {
+        Some(Refusal::OutOfRange)
+    } else {
+        None
+    }
+}
