@@ -1,0 +1,5 @@
+pub mod Contents
+pub mod Clears
+pub mod Effects
+pub mod Commands
+pub mod Meeting
