@@ -1,0 +1,4 @@
+pub mod Tables
+pub mod Records
+pub mod Steps
+pub mod Logs

@@ -1,0 +1,68 @@
+-- What a planner keeps stands after a call, and what it plans is what the definitions say.
+use Rattle.std.proofs.Common.{◌≡◌, ℕ, Bool, true, false, not, ◌||◌, List, [], Option, Some, None, Result, Ok, Err, OnOk, refl, sym, ap, subst, ◌∙◌}
+use Rattle.dx_types.specs.declared.refusal.Refusal.{Refusal}
+use Rattle.call_log.specs.Call.{Call, Issued}
+use Rattle.d3d_model.specs.D3dState.{Objects}
+use Rattle.d3d_model.specs.Effect.{objects_after}
+use Rattle.d3d_model.specs.InOrder.{State, accepted, unless_refused, verdict_in}
+use Rattle.d3d_model.specs.Past.{Past, then_done}
+use Rattle.d3d_model.specs.Effect.{deeds_by}
+use Rattle.d3d_model.specs.Uses.{bound_unless, use_in, use_unless}
+use Rattle.d3d_model.specs.Verdict.{verdict}
+use Rattle.d3d_state.specs.Meaning.{objects_of}
+use Rattle.d3d_state.specs.declared.objects.Objects as code
+use Rattle.d3d_uses.specs.Summary.{Uses}
+use Rattle.d3d_checks.specs.Accepted.{Tells, is_built, is_draw, is_recorded, is_shader, is_unbuilt}
+use Rattle.d3d_checks.specs.Bound.{bound_of}
+use Rattle.d3d_plan.specs.Planned.{Planned, planned_by}
+use Rattle.d3d_plan.specs.Stands.{Stands}
+
+neither : (shader recorded draw : Bool) → shader || recorded ≡ false → draw ≡ false → not (shader || draw) ≡ true
+neither true recorded draw e d = absurd cc
+neither false recorded true e d = absurd cc
+neither false recorded false e d = refl
+
+-- a call that is neither a draw nor unbuilt is built
+pub is_built_by : (i : Issued) → is_unbuilt i ≡ false → is_draw i.call ≡ false → is_built i.call ≡ true
+is_built_by i e d = neither (is_shader i.call) (is_recorded i) (is_draw i.call) e d
+
+-- the verdict on the kept objects is that of the state
+pub of_state : (s : State) (objects : code.Objects) (uses : Uses) (i : Issued) (r : Option Refusal) → Stands s objects uses → r ≡ verdict (objects_of objects) s.past i → r ≡ verdict_in s i
+of_state s objects uses i r st e = e ∙ ap (λ (o : Objects). verdict o s.past i) st.same
+
+abbrev issued_on : ℕ → Call → Issued
+issued_on context c = record { context = context; call = c }
+
+-- what is planned of a call with this verdict
+abbrev planned_with : State → Issued → Option Refusal → Planned
+planned_with s i why = record { verdict = why; last_use = use_unless s i.call why; bound = bound_unless s i why }
+
+pub state_refused : (n : ℕ) (s : State) (i : Issued) (why : Refusal) → Some why ≡ verdict_in s i → s ≡ unless_refused n s i (verdict_in s i)
+state_refused n s i why e = ap (unless_refused n s i) e
+
+pub planned_refused : (s : State) (i : Issued) (why : Refusal) → Some why ≡ verdict_in s i → record { verdict = Some why; last_use = None; bound = [] } ≡ planned_by s (Some i)
+planned_refused s i why e = ap (planned_with s i) e
+
+pub state_accepted : (n : ℕ) (s : State) (context : ℕ) (c : Call) → None ≡ verdict_in s (issued_on context c) → context ≡ 0
+    → accepted n s 0 c ≡ unless_refused n s (issued_on context c) (verdict_in s (issued_on context c))
+state_accepted n s context c e zero = ap (λ x. accepted n s x c) (sym zero) ∙ ap (unless_refused n s (issued_on context c)) e
+
+pub planned_accepted : (s : State) (context : ℕ) (c : Call) → None ≡ verdict_in s (issued_on context c) → context ≡ 0
+    → record { verdict = None; last_use = use_in s c; bound = bound_of s.objects c } ≡ planned_by s (Some (issued_on context c))
+planned_accepted s context c e zero =
+    ap (λ x. planned_with s (issued_on x c) None) (sym zero) ∙ ap (planned_with s (issued_on context c)) e
+
+-- the planner's state after an accepted call
+pub stands_after : (n : ℕ) (s : State) (c : Call) (old new : code.Objects) (before after : Uses) → Stands s old before
+    → objects_of new ≡ objects_after n (objects_of old) 0 c
+    → Tells (then_done n s.past (deeds_by (objects_of old) 0 c)) (objects_after n (objects_of old) 0 c) after
+    → Stands (accepted n s 0 c) new after
+stands_after n s c old new before after st applied tells = record {
+  same = applied ∙ ap (λ (o : Objects). objects_after n o 0 c) st.same;
+  tells = subst (λ (o : Objects). Tells (then_done n s.past (deeds_by o 0 c)) (objects_of new) after) st.same
+      (subst (λ (o : Objects). Tells (then_done n s.past (deeds_by (objects_of old) 0 c)) o after) (sym applied) tells);
+}
+
+pub always : {T E P : Type 0} (r : Result T E) → P → OnOk r P
+always (Ok x) p = p
+always (Err e) p = tt

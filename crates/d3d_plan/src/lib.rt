@@ -1,0 +1,16 @@
+//! The plan of a log: of each call, why it is refused, which call it waits for, and which bytes it binds.
+#![tactic(auto)]
+
+mod end;
+mod entry;
+mod make;
+mod plan;
+mod scan;
+mod step;
+
+pub use end::PlanEnd;
+pub use make::make_plan;
+pub use plan::{Plan, Verdict};
+
+#[cfg(test)]
+mod tests;

@@ -1,0 +1,44 @@
+ghost use Rattle.std.specs.Prelude.{◌≡◌, length, IfErr, IfOk, OnOk};
+ghost use Rattle.call_log.specs.Grammar.{calls_of};
+ghost use Rattle.d3d_plan.specs.Ends.{EndsAt, IsPlayable};
+ghost use Rattle.d3d_plan.specs.Planned.{plan_of};
+
+use crate::scan::unplanned;
+use crate::step::Planner;
+use crate::{Plan, PlanEnd};
+use call_log::Log;
+use std::alloc::{AllocError, Global};
+
+/// The plan of a log. It costs a logarithm a call, and memory in proportion to the calls.
+pub fn make_plan(alloc: Global, log: &Log<'_>) -> Result<Plan, PlanEnd>
+    ensures planned { IfOk result (λ p. p ≡ plan_of (calls_of log.now.frames) (length log.now.frames)) }
+    ensures playable { OnOk result (IsPlayable log.now.frames) }
+    ensures ends { IfErr result (λ e. EndsAt log.now.frames e) }
+{
+    if let Some(end) = unplanned(log) {
+        return Err(end);
+    }
+    let plan = plan_calls(alloc, log)?;
+    Ok(plan)
+}
+
+/// The plan of a log without draws, all of whose calls are built.
+fn plan_calls(alloc: Global, log: &Log<'_>) -> Result<Plan, AllocError>
+    requires { IsPlayable log.now.frames }
+    ensures { IfOk result (λ p. p ≡ plan_of (calls_of log.now.frames) (length log.now.frames)) }
+{
+    let mut planner = Planner::new(alloc);
+    'calls: for i in 0..log.count() {
+        let Some(item) = log.item(i + 1) else {
+            unreachable!();
+        };
+        planner.plan_call(i + 1, item.context, &item.call())?;
+    }
+    let Planner {
+        entries,
+        ranges,
+        objects: _,
+        uses: _,
+    } = planner;
+    Ok(Plan::new(entries, ranges))
+}

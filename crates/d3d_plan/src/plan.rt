@@ -1,0 +1,103 @@
+ghost use Rattle.std.specs.Prelude.{◌&&◌, nat_le, ◌≡◌, ◌-◌, ◌≤◌, List, [], length, None, Some, slice_get};
+ghost use Rattle.std.specs.List.{All};
+ghost use Rattle.d3d_plan.specs.Planned.{Planned};
+ghost use Rattle.d3d_plan.specs.Shown.{IsWithin, shown};
+ghost use Rattle.std.specs.Option.{option_map};
+ghost use Rattle.d3d_plan.specs.Verdicts.{refusal_of};
+
+use crate::entry::Entry;
+use dx_types::{CallNo, Refusal, ResRange, Span};
+use std::marker::Model;
+
+/// Whether a call goes, or why it is refused.
+#[derive(Clone, Copy, Debug, PartialEq, Eq)]
+pub enum Verdict {
+    Go,
+    Refused(Refusal),
+}
+
+/// The plan of a log. A clause sees what is planned of each call, in order.
+#[derive(Debug, Drop)]
+pub struct Plan {
+    entries: Vec<Entry>,
+    ranges: Vec<ResRange>,
+}
+
+impl Model for Plan {
+    ghost use Rattle.std.specs.Prelude.{List};
+    ghost use Rattle.std.specs.List.{All};
+    ghost use Rattle.d3d_plan.specs.Planned.{Planned};
+    ghost use Rattle.d3d_plan.specs.Shown.{IsWithin, shown};
+
+    ghost Value = { List Planned };
+
+    ghost view = { λ p. shown p.ranges.items p.entries.items };
+
+    ghost invariant = { λ p. All (IsWithin p.ranges.items) p.entries.items };
+}
+
+impl Plan {
+    /// The plan that these tables show.
+    pub(crate) fn new(entries: Vec<Entry>, ranges: Vec<ResRange>) -> Plan
+        requires { All (IsWithin ranges.items) entries.items }
+        ensures { result ≡ shown ranges.items entries.items }
+    {
+        Plan { entries, ranges }
+    }
+
+    /// Whether the log has a call n: they are numbered from 1.
+    pub fn has(&self, n: CallNo) -> bool
+        ensures { result ≡ (nat_le 1 n && nat_le n (length self.now)) }
+    {
+        1 <= n && n as usize <= self.entries.len()
+    }
+
+    /// Whether call n of the log, from 1, goes, or why it is refused.
+    pub fn verdict(&self, n: CallNo) -> Verdict
+        requires first { 1 ≤ n }
+        requires last { n ≤ length self.now }
+        ensures { Some (refusal_of result) ≡ option_map (λ (p : Planned). p.verdict) (slice_get self.now (n - 1)) }
+    {
+        match self.entries[(n - 1) as usize].verdict {
+            None => Verdict::Go,
+            Some(why) => Verdict::Refused(why),
+        }
+    }
+
+    /// The call that an accepted readback, or an accepted question for a query's result, waits for; None for other calls.
+    pub fn last_use(&self, n: CallNo) -> Option<CallNo>
+        requires first { 1 ≤ n }
+        requires last { n ≤ length self.now }
+        ensures { Some result ≡ option_map (λ (p : Planned). p.last_use) (slice_get self.now (n - 1)) }
+    {
+        self.entries[(n - 1) as usize].last_use
+    }
+
+    /// The ranges that call n binds.
+    pub fn bound(&self, n: CallNo) -> &[ResRange]
+        requires first { 1 ≤ n }
+        requires last { n ≤ length self.now }
+        ensures { Some result.now ≡ option_map (λ (p : Planned). p.bound) (slice_get self.now (n - 1)) }
+    {
+        let entry = self.entries[(n - 1) as usize];
+        &self.ranges[entry.start as usize..entry.end as usize]
+    }
+
+    /// The calls of the command list that call n finishes or executes. No list can be made yet.
+    pub fn segment(&self, n: CallNo) -> &[CallNo]
+        requires first { 1 ≤ n }
+        requires last { n ≤ length self.now }
+        ensures { result.now ≡ [] }
+    {
+        &[]
+    }
+
+    /// The token words of the shader that call n creates. No shader can be created yet.
+    pub fn shader_words(&self, n: CallNo) -> Option<Span>
+        requires first { 1 ≤ n }
+        requires last { n ≤ length self.now }
+        ensures { result ≡ None }
+    {
+        None
+    }
+}

@@ -1,0 +1,131 @@
+ghost use Rattle.std.specs.Prelude.{◌≡◌, ◌++◌, ◌∷◌, [], List, None, Some, false, OnOk};
+ghost use Rattle.call_log.specs.View.{call_view};
+ghost use Rattle.d3d_checks.specs.Accepted.{Accepted, Tells, is_draw, is_unbuilt};
+ghost use Rattle.d3d_checks.specs.Bound.{bound_of};
+ghost use Rattle.d3d_model.specs.InOrder.{State, accepted, initial, unless_refused, verdict_in};
+ghost use Rattle.d3d_model.specs.Uses.{use_in};
+ghost use Rattle.d3d_plan.specs.Planned.{Planned, planned_by};
+ghost use Rattle.d3d_plan.specs.Shown.{Shows};
+ghost use Rattle.d3d_plan.specs.Stands.{Stands};
+ghost use Rattle.d3d_state.specs.Meaning.{objects_of};
+
+use crate::entry::Entry;
+use call_log::Call;
+use d3d_checks::{apply, keep_call, push_bound, verdict};
+use d3d_state::Objects;
+use d3d_uses::Uses;
+use dx_types::{CallNo, Refusal, ResRange};
+use std::alloc::{AllocError, Global};
+
+/// What a planner keeps from call to call: the live objects, what is asked of the past, and the tables so far.
+#[derive(Drop)]
+pub(crate) struct Planner {
+    pub(crate) objects: Objects,
+    pub(crate) uses: Uses,
+    pub(crate) entries: Vec<Entry>,
+    pub(crate) ranges: Vec<ResRange>,
+}
+
+impl Planner {
+    /// Before the first call.
+    pub(crate) fn new(alloc: Global) -> Planner
+        ensures stands { Stands initial result.objects result.uses }
+        ensures shows { Shows result.entries.items result.ranges.items [] }
+    {
+        Planner {
+            objects: Objects::new(alloc),
+            uses: Uses::new(alloc),
+            entries: Vec::new(alloc),
+            ranges: Vec::new(alloc),
+        }
+    }
+
+    /// Plans call n of the log.
+    pub(crate) fn plan_call(
+        &mut self,
+        n: CallNo,
+        context: u16,
+        call: &Call<'_>,
+    ) -> Result<(), AllocError>
+        requires some_state { (s : State) × Stands s self.old.objects self.old.uses }
+        requires built { is_unbuilt (record { context = context; call = call_view call.now }) ≡ false }
+        requires no_draw { is_draw (call_view call.now) ≡ false }
+        ensures stands { OnOk result ((s : State) → Stands s self.old.objects self.old.uses
+            → Stands (unless_refused n s (record { context = context; call = call_view call.now })
+            (verdict_in s (record { context = context; call = call_view call.now }))) self.new.objects self.new.uses) }
+        ensures shows { OnOk result ((s : State) (plan : List Planned) → Stands s self.old.objects self.old.uses
+            → Shows self.old.entries.items self.old.ranges.items plan
+            → Shows self.new.entries.items self.new.ranges.items
+            (plan ++ planned_by s (Some (record { context = context; call = call_view call.now })) ∷ [])) }
+    {
+        match verdict(&self.objects, &self.uses, context, call) {
+            Some(why) => self.plan_refused(why),
+            None => self.plan_accepted(n, call),
+        }
+    }
+
+    /// Plans a call that is refused.
+    fn plan_refused(&mut self, why: Refusal) -> Result<(), AllocError>
+        ensures objects { self.new.objects ≡ self.old.objects }
+        ensures uses { self.new.uses ≡ self.old.uses }
+        ensures shows { OnOk result ((plan : List Planned) → Shows self.old.entries.items self.old.ranges.items plan
+            → Shows self.new.entries.items self.new.ranges.items
+            (plan ++ record { verdict = Some why; last_use = None; bound = [] } ∷ [])) }
+    {
+        let end = self.ranges.len();
+        push_entry(&mut self.entries, Some(why), None, end, end)
+    }
+
+    /// Plans call n of the log, which is accepted on the immediate context.
+    fn plan_accepted(&mut self, n: CallNo, call: &Call<'_>) -> Result<(), AllocError>
+        requires { Accepted (objects_of self.old.objects) (call_view call.now) }
+        ensures stands { OnOk result ((s : State) → Stands s self.old.objects self.old.uses
+            → Stands (accepted n s 0 (call_view call.now)) self.new.objects self.new.uses) }
+        ensures shows { OnOk result ((s : State) (plan : List Planned) → Stands s self.old.objects self.old.uses
+            → Shows self.old.entries.items self.old.ranges.items plan
+            → Shows self.new.entries.items self.new.ranges.items
+            (plan ++ record { verdict = None; last_use = use_in s (call_view call.now); bound = bound_of s.objects (call_view call.now) } ∷ [])) }
+    {
+        let start = self.ranges.len();
+        let last = last_use(&self.objects, &self.uses, call);
+        push_bound(&mut self.ranges, &self.objects, call)?;
+        keep_call(&mut self.uses, n, call, &self.ranges[start..])?;
+        apply(&mut self.objects, n, call)?;
+        push_entry(&mut self.entries, None, last, start, self.ranges.len())
+    }
+}
+
+/// The call that an accepted readback, or an accepted question for a query's result, waits for.
+fn last_use(objects: &Objects, uses: &Uses, call: &Call<'_>) -> Option<CallNo>
+    requires { Accepted (objects_of objects.now) (call_view call.now) }
+    ensures { (s : State) → Stands s objects.now uses.now → result ≡ use_in s (call_view call.now) }
+{
+    match *call {
+        Call::MapRead { res, .. } => uses.last_binding(res),
+        Call::GetData { query, .. } => objects.query(query)?.ended,
+        _ => None,
+    }
+}
+
+/// Appends an entry whose ranges are those from `start` on. More of them than 32 bits count are more than memory holds.
+fn push_entry(
+    entries: &mut Vec<Entry>,
+    verdict: Option<Refusal>,
+    last_use: Option<CallNo>,
+    start: usize,
+    end: usize,
+) -> Result<(), AllocError>
+    ensures { OnOk result (entries.new.items ≡ entries.old.items
+        ++ record { verdict = verdict; last_use = last_use; start = start; end = end } ∷ []) }
+{
+    let (Ok(start), Ok(end)) = (u32::try_from(start), u32::try_from(end)) else {
+        return Err(AllocError);
+    };
+    entries.push(Entry {
+        verdict,
+        last_use,
+        start,
+        end,
+    })?;
+    Ok(())
+}
