@@ -1,0 +1,116 @@
+-- One call of a log: the state after it, and what is said of it.
+use Rattle.std.proofs.Common.{◌≡◌, ℕ, zero, suc, Bool, true, false, not, ◌&&◌, ◌||◌, List, [], ◌∷◌, ◌++◌, Option, Some, None, refl, sym, ap, ◌∙◌}
+use Rattle.std.specs.Prelude.{◌==◌, if◌then◌else◌}
+use Rattle.std.proofs.lemmas.Bool.{eqb-true}
+use Rattle.dx_types.specs.declared.refusal.Refusal.{Refusal}
+use Rattle.dx_types.specs.declared.refusal.Refusal.TheVariants.{WrongContext, TooMuchMemory}
+use Rattle.dx_types.specs.declared.reply.Reply.{Reply}
+use Rattle.dx_types.specs.declared.reply.Reply.TheVariants as said
+use Rattle.call_log.specs.Call.{Issued}
+use Rattle.d3d_model.specs.D3dState.{Objects, Memory}
+use Rattle.d3d_model.specs.Past.{Past}
+use Rattle.d3d_model.specs.Effect.{objects_after}
+use Rattle.d3d_model.specs.Memory.{memory_after}
+use Rattle.d3d_model.specs.Check.{first_failed}
+use Rattle.d3d_model.specs.Verdict.{verdict, call_checks, is_too_long, is_wrong_at, place_of}
+use Rattle.d3d_model.specs.InOrder.{State, accepted, unless_refused, verdict_in, after_call, after_calls, before_call, call_at}
+use Rattle.d3d_model.specs.ReplyText.{none_pending, answer, answer_or_still, reply_unless, reply_to, reply_at}
+use Rattle.d3d_model.proofs.Maps.{get-empty}
+use Rattle.d3d_checks.specs.Accepted.{Accepted, is_shader, is_draw, is_recorded, is_unbuilt}
+use Rattle.d3d_memory.specs.Meeting.{met_by}
+use Rattle.d3d_ref.specs.Stands.{Stands}
+
+-- ---- no call
+
+state_stays : (log : List Issued) (n : ℕ) → call_at log n ≡ None → after_calls log n ≡ before_call log n
+unfolding after_calls
+state_stays log zero none = refl
+state_stays log (suc n) none = ap (after_call (suc n) (after_calls log n)) none
+
+stands_at : (o : Objects) (m : Memory) (s t : State) → t ≡ s → Stands o m s → Stands o m t
+stands_at o m s t e h = record { objects = h.objects ∙ ap (λ (r : State). r.objects) (sym e); memory = h.memory ∙ ap (λ (r : State). r.memory) (sym e) }
+
+pub stands_none : (log : List Issued) (n : ℕ) (o : Objects) (m : Memory) → call_at log n ≡ None → Stands o m (before_call log n) → Stands o m (after_calls log n)
+stands_none log n o m none h = stands_at o m (before_call log n) (after_calls log n) (state_stays log n none) h
+
+pub no_reply : (log : List Issued) (n : ℕ) → call_at log n ≡ None → None ≡ reply_at log none_pending n
+no_reply log n none = sym (ap (reply_to none_pending n (before_call log n)) none)
+
+-- ---- a call, by its verdict
+
+step : (log : List Issued) (n : ℕ) (i : Issued) → call_at log n ≡ Some i → after_calls log n ≡ unless_refused n (before_call log n) i (verdict_in (before_call log n) i)
+unfolding after_calls
+step log zero i there = absurd cc
+step log (suc n) i there = ap (after_call (suc n) (after_calls log n)) there
+
+pub stands_refused : (log : List Issued) (n : ℕ) (i : Issued) (why : Refusal) (o : Objects) (m : Memory) → call_at log n ≡ Some i → Some why ≡ verdict_in (before_call log n) i
+    → Stands o m (before_call log n) → Stands o m (after_calls log n)
+stands_refused log n i why o m there v h =
+    stands_at o m (before_call log n) (after_calls log n) (step log n i there ∙ ap (unless_refused n (before_call log n) i) (sym v)) h
+
+pub reply_refused : (log : List Issued) (n : ℕ) (i : Issued) (why : Refusal) → call_at log n ≡ Some i → Some why ≡ verdict_in (before_call log n) i → Some (said.Refused n why) ≡ reply_at log none_pending n
+reply_refused log n i why there v =
+    sym (ap (reply_to none_pending n (before_call log n)) there ∙ ap (reply_unless none_pending n (before_call log n) i.call) (sym v))
+
+-- ---- an accepted call
+
+is_first : (o : Objects) (past : Past) (i : Issued) → is_wrong_at (place_of i.call) i.context ≡ true → verdict o past i ≡ Some WrongContext
+is_first o past i e =
+    ap (λ b. if b then Some WrongContext else first_failed (call_checks o past i.context i.call ++ (is_too_long o i.context (place_of i.call), TooMuchMemory) ∷ [])) e
+
+both_false : (a b : Bool) → a || b ≡ false → (a ≡ false) × (b ≡ false)
+both_false true b e = absurd cc
+both_false false b e = (refl, e)
+
+immediate : (a b : Bool) → not a && not b ≡ false → (b ≡ true → ⊥) → a ≡ true
+immediate true b e h = refl
+immediate false true e h = absurd (h refl)
+immediate false false e h = absurd cc
+
+-- a call that is built and accepted is on the immediate context
+pub on_immediate : (s : State) (i : Issued) → is_unbuilt i ≡ false → None ≡ verdict_in s i → i.context ≡ 0
+on_immediate s i built v =
+    let recorded = both_false (is_shader i.call) (is_recorded i) built in
+    eqb-true i.context 0 (immediate (i.context == 0) (is_wrong_at (place_of i.call) i.context) recorded.1 (λ e. refused (is_first s.objects s.past i e)))
+  where
+    refused : verdict_in s i ≡ Some WrongContext → ⊥
+    refused e = cc
+
+not_either : (a b : Bool) → a ≡ false → b ≡ false → not (a || b) ≡ true
+not_either true b e f = absurd cc
+not_either false true e f = absurd cc
+not_either false false e f = refl
+
+pub is_accepted : (s : State) (i : Issued) (o : Objects) (m : Memory) → Stands o m s → is_unbuilt i ≡ false → is_draw i.call ≡ false → None ≡ verdict_in s i → Accepted o i.call
+is_accepted s i o m h built no_draw v = record {
+  built = not_either (is_shader i.call) (is_draw i.call) (both_false (is_shader i.call) (is_recorded i) built).0 no_draw;
+  past = s.past;
+  passes =
+      ap (λ (p : Objects). verdict p s.past (record { context = 0; call = i.call })) h.objects
+      ∙ ap (λ (x : ℕ). verdict s.objects s.past (record { context = x; call = i.call })) (sym (on_immediate s i built v))
+      ∙ sym v;
+}
+
+pub stands_accepted : (log : List Issued) (n : ℕ) (i : Issued) (o o' : Objects) (m m' : Memory) → call_at log n ≡ Some i → is_unbuilt i ≡ false → None ≡ verdict_in (before_call log n) i
+    → Stands o m (before_call log n) → o' ≡ objects_after n o 0 i.call → m' ≡ memory_after n o m 0 i.call → Stands o' m' (after_calls log n)
+stands_accepted log n i o o' m m' there built v h eo em =
+    let s = before_call log n in
+    let here = on_immediate s i built v in
+    let after : after_calls log n ≡ accepted n s i.context i.call = step log n i there ∙ ap (unless_refused n s i) (sym v) in
+    stands_at o' m' (accepted n s i.context i.call) (after_calls log n) after (record {
+      objects = eo ∙ ap (λ (p : Objects). objects_after n p 0 i.call) h.objects ∙ ap (λ (x : ℕ). objects_after n s.objects x i.call) (sym here);
+      memory =
+          em ∙ ap (λ (p : Objects). memory_after n p m 0 i.call) h.objects ∙ ap (λ (k : Memory). memory_after n s.objects k 0 i.call) h.memory
+          ∙ ap (λ (x : ℕ). memory_after n s.objects s.memory x i.call) (sym here);
+    })
+
+pub reply_accepted : (log : List Issued) (n : ℕ) (i : Issued) (o : Objects) (m : Memory) (r : Option Reply) → call_at log n ≡ Some i → None ≡ verdict_in (before_call log n) i
+    → Stands o m (before_call log n) → ((past : Past) → r ≡ answer n (met_by o m past) i.call) → r ≡ reply_at log none_pending n
+reply_accepted log n i o m r there v h is =
+    let s = before_call log n in
+    is s.past
+    ∙ ap (λ (p : Objects). answer n (met_by p m s.past) i.call) h.objects
+    ∙ ap (λ (k : Memory). answer n (met_by s.objects k s.past) i.call) h.memory
+    ∙ sym (ap (answer_or_still n s i.call) (get-empty ℕ n))
+    ∙ ap (reply_unless none_pending n s i.call) v
+    ∙ sym (ap (reply_to none_pending n s) there)

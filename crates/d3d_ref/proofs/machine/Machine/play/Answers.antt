@@ -1,0 +1,57 @@
+use Rattle.std.proofs.Common.{sym, ◌∙◌, refl}
+use Rattle.call_log.specs.Call.{Issued}
+use Rattle.call_log.specs.View.{call_view, frame_view}
+use Rattle.call_log.specs.Grammar.{calls_of}
+use Rattle.call_log.specs.Body.{call_of}
+use Rattle.d3d_model.proofs.Calls.{call_none, call_some}
+use Rattle.d3d_model.specs.InOrder.{before_call}
+use Rattle.d3d_state.specs.Meaning.{objects_of}
+use Rattle.d3d_ref.proofs.Steps as steps
+use Rattle.d3d_ref.proofs.machine.Machine.play.Goals as goal
+
+pub returns-in-None-clause-reply : goal.returns-in-None-clause-reply
+returns-in-None-clause-reply c = steps.no_reply (calls_of c.args.log.now.frames) c.args.n (call_none c.args.log.now.frames c.args.n c.in-None.ensures.record)
+
+pub returns-in-None-clause-stands : goal.returns-in-None-clause-stands
+returns-in-None-clause-stands c =
+    steps.stands_none (calls_of c.args.log.now.frames) c.args.n (objects_of c.args.self.now.objects) c.args.self.now.memory (call_none c.args.log.now.frames c.args.n c.in-None.ensures.record) c.requires.stands
+
+pub returns-in-Some-refusal-clause-reply : goal.returns-in-Some-refusal-clause-reply
+returns-in-Some-refusal-clause-reply c =
+    let f = frame_view c.in-Some.item in
+    let i : Issued = record { context = f.context; call = call_of f.kind f.body } in
+    let there = call_some c.args.log.now.frames c.args.n f (call_of f.kind f.body) c.in-Some.ensures.record refl in
+    steps.reply_refused (calls_of c.args.log.now.frames) c.args.n i c.in-Some-refusal.why there (sym c.in-Some-refusal.is ∙ c.requires.judged.verdict i there)
+
+pub returns-in-Some-refusal-clause-stands : goal.returns-in-Some-refusal-clause-stands
+returns-in-Some-refusal-clause-stands c =
+    let f = frame_view c.in-Some.item in
+    let i : Issued = record { context = f.context; call = call_of f.kind f.body } in
+    let there = call_some c.args.log.now.frames c.args.n f (call_of f.kind f.body) c.in-Some.ensures.record refl in
+    steps.stands_refused (calls_of c.args.log.now.frames) c.args.n i c.in-Some-refusal.why (objects_of c.args.self.now.objects) c.args.self.now.memory there
+    (sym c.in-Some-refusal.is ∙ c.requires.judged.verdict i there) c.requires.stands
+
+pub execute-requires : goal.execute-requires
+execute-requires c =
+    let f = frame_view c.in-Some.item in
+    let i : Issued = record { context = f.context; call = call_view c.call.result } in
+    let there = call_some c.args.log.now.frames c.args.n f (call_view c.call.result) c.in-Some.ensures.record c.call.ensures in
+    steps.is_accepted (before_call (calls_of c.args.log.now.frames) c.args.n) i (objects_of c.args.self.now.objects) c.args.self.now.memory c.requires.stands
+    (c.requires.judged.built i there) (c.requires.judged.no_draw i there) (sym c.in-None-refusal.is ∙ c.requires.judged.verdict i there)
+
+pub returns-in_ok-reply-in-None-refusal-clause-reply : goal.returns-in_ok-reply-in-None-refusal-clause-reply
+returns-in_ok-reply-in-None-refusal-clause-reply c =
+    let f = frame_view c.in-Some.item in
+    let i : Issued = record { context = f.context; call = call_view c.call.result } in
+    let there = call_some c.args.log.now.frames c.args.n f (call_view c.call.result) c.in-Some.ensures.record c.call.ensures in
+    steps.reply_accepted (calls_of c.args.log.now.frames) c.args.n i (objects_of c.args.self.now.objects) c.args.self.now.memory c.in_ok-reply-in-None-refusal.reply there
+    (sym c.in-None-refusal.is ∙ c.requires.judged.verdict i there) c.requires.stands c.in_ok-reply-in-None-refusal.ensures.reply
+
+pub returns-in_ok-reply-in-None-refusal-clause-stands : goal.returns-in_ok-reply-in-None-refusal-clause-stands
+returns-in_ok-reply-in-None-refusal-clause-stands c =
+    let f = frame_view c.in-Some.item in
+    let i : Issued = record { context = f.context; call = call_view c.call.result } in
+    let there = call_some c.args.log.now.frames c.args.n f (call_view c.call.result) c.in-Some.ensures.record c.call.ensures in
+    steps.stands_accepted (calls_of c.args.log.now.frames) c.args.n i (objects_of c.args.self.now.objects) (objects_of c.execute.new.self.objects) c.args.self.now.memory c.execute.new.self.memory there
+    (c.requires.judged.built i there) (sym c.in-None-refusal.is ∙ c.requires.judged.verdict i there) c.requires.stands
+    c.in_ok-reply-in-None-refusal.ensures.objects c.in_ok-reply-in-None-refusal.ensures.memory

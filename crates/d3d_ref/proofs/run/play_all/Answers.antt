@@ -1,0 +1,26 @@
+use Rattle.std.proofs.Common.{ap, ◌∙◌, ◌<◌, length, List, Some, arith}
+use Rattle.call_log.specs.Grammar.{calls_of}
+use Rattle.d3d_model.specs.InOrder.{after_calls}
+use Rattle.d3d_model.specs.ReplyText.{none_pending, reply_at, replies_upto}
+use Rattle.d3d_plan.specs.Planned.{Planned}
+use Rattle.d3d_ref.proofs.Judgements.{judged, length-plan, next_said}
+use Rattle.d3d_ref.proofs.run.play_all.Goals as goal
+
+pub calls-init : goal.calls-init
+unfolding after_calls replies_upto
+calls-init c = record { stands = record { objects = c.new-machine.ensures.objects; memory = c.new-machine.ensures.memory }; said = c.new-said.ensures.items }
+
+pub verdict-requires-clause-last : goal.verdict-requires-clause-last
+verdict-requires-clause-last c =
+    omega (arith, ap (λ (l : List Planned). length l) c.requires.plan, length-plan (calls_of c.args.log.now.frames) (length c.args.log.now.frames), c.count-i-end.ensures.count, c.calls-test.true)
+
+pub play-requires-clause-judged : goal.play-requires-clause-judged
+play-requires-clause-judged c =
+    let within : c.calls.i < length c.args.log.now.frames = omega (arith, c.count-i-end.ensures.count, c.calls-test.true) in
+    judged c.args.log.now.frames c.args.plan.now c.calls.i c.refusal.result c.requires.plan within c.requires.playable (ap Some c.refusal.ensures ∙ c.verdict.ensures)
+
+pub calls-preserved : goal.calls-preserved
+calls-preserved c = record {
+  stands = c.in_ok-reply.ensures.stands;
+  said = next_said (reply_at (calls_of c.args.log.now.frames) none_pending) c.calls.i c.calls.said.items c.say.new.said.items c.in_ok-reply.reply c.calls.invariant.said c.in_ok-reply.ensures.reply c.in_ok-say.ensures;
+}

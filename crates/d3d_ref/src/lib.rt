@@ -1,0 +1,11 @@
+//! The machine that plays a log in order, one call at a time, with one list of bytes for each buffer.
+#![tactic(auto)]
+
+mod machine;
+mod run;
+
+pub use machine::Machine;
+pub use run::reference;
+
+#[cfg(test)]
+mod tests;

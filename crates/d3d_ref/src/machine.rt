@@ -1,0 +1,81 @@
+ghost use Rattle.std.specs.Prelude.{◌≡◌, IfOk, OnOk};
+ghost use Rattle.call_log.specs.Grammar.{calls_of};
+ghost use Rattle.call_log.specs.View.{call_view};
+ghost use Rattle.d3d_checks.specs.Accepted.{Accepted};
+ghost use Rattle.d3d_memory.specs.Meeting.{met_by};
+ghost use Rattle.d3d_model.specs.Effect.{objects_after};
+ghost use Rattle.d3d_model.specs.InOrder.{after_calls, before_call, initial};
+ghost use Rattle.d3d_model.specs.Memory.{memory_after};
+ghost use Rattle.d3d_model.specs.Past.{Past};
+ghost use Rattle.d3d_model.specs.ReplyText.{answer, none_pending, reply_at};
+ghost use Rattle.d3d_ref.specs.Stands.{Judged, Stands};
+ghost use Rattle.d3d_state.specs.Meaning.{objects_of};
+
+use call_log::{Call, Log};
+use d3d_checks::apply;
+use d3d_memory::{Memory, accept, answer};
+use d3d_state::Objects;
+use dx_types::{CallNo, Refusal, Reply};
+use std::alloc::{AllocError, Global};
+
+/// The Direct3D state between two calls of a log: what is live and set, and the bytes.
+#[derive(Drop)]
+pub struct Machine {
+    pub objects: Objects,
+    pub memory: Memory,
+}
+
+impl Machine {
+    /// Nothing is live.
+    pub fn new(alloc: Global) -> Machine
+        ensures { Stands (objects_of result.objects) result.memory initial }
+    {
+        Machine {
+            objects: Objects::new(alloc),
+            memory: Memory::new(alloc),
+        }
+    }
+
+    /// Plays call n of a log, which is refused for this reason, or accepted. The answer is what a run says of it.
+    pub fn play(
+        &mut self,
+        alloc: Global,
+        log: &Log<'_>,
+        n: CallNo,
+        refusal: Option<Refusal>,
+    ) -> Result<Option<Reply>, AllocError>
+        requires stands { Stands (objects_of self.old.objects) self.old.memory (before_call (calls_of log.now.frames) n) }
+        requires judged { Judged (calls_of log.now.frames) n refusal }
+        ensures reply { IfOk result (λ reply. reply ≡ reply_at (calls_of log.now.frames) none_pending n) }
+        ensures stands { OnOk result (Stands (objects_of self.new.objects) self.new.memory (after_calls (calls_of log.now.frames) n)) }
+    {
+        match log.item(n) {
+            None => Ok(None),
+            Some(item) => match refusal {
+                Some(why) => Ok(Some(Reply::Refused { n, why })),
+                None => {
+                    let reply = self.execute(alloc, n, &item.call())?;
+                    Ok(reply)
+                }
+            },
+        }
+    }
+
+    // Plays call n, which is accepted on the immediate context: its answer, if it has one, and then its effect.
+    fn execute(
+        &mut self,
+        alloc: Global,
+        n: CallNo,
+        call: &Call<'_>,
+    ) -> Result<Option<Reply>, AllocError>
+        requires { Accepted (objects_of self.old.objects) (call_view call.now) }
+        ensures reply { (past : Past) → IfOk result (λ reply. reply ≡ answer n (met_by (objects_of self.old.objects) self.old.memory past) (call_view call.now)) }
+        ensures objects { OnOk result (objects_of self.new.objects ≡ objects_after n (objects_of self.old.objects) 0 (call_view call.now)) }
+        ensures memory { OnOk result (self.new.memory ≡ memory_after n (objects_of self.old.objects) self.old.memory 0 (call_view call.now)) }
+    {
+        let reply = answer(alloc, n, &self.memory, &self.objects, call)?;
+        accept(&mut self.memory, &self.objects, 0, call)?;
+        apply(&mut self.objects, n, call)?;
+        Ok(reply)
+    }
+}
