@@ -1,4 +1,4 @@
-ghost use Rattle.std.specs.Prelude.{◌≡◌, ◌<◌, None, IfOk, slice_index_or};
+ghost use Rattle.std.specs.Prelude.{◌≡◌, ◌<◌, None, IfOk, length, slice_index_or};
 ghost use Rattle.d3d_model.specs.Binding as model;
 ghost use Rattle.std.specs.Option.{option_to_list};
 ghost use Rattle.d3d_model.specs.Binding.{predicate_range, default_bindings, holds_buffer, holds_query, holds_shader, holds_view};
@@ -124,6 +124,17 @@ impl Bindings {
         *self = Bindings::new();
     }
 
+    /// There are 14 constant slots, 16 shader resource slots and 8 unordered access slots, set or empty.
+    pub fn has_all_slots(&self)
+        ensures constants { length self.now.constants ≡ 14 }
+        ensures srvs { length self.now.srvs ≡ 16 }
+        ensures uavs { length self.now.uavs ≡ 8 }
+    {
+        let _constants: &[Option<ResRange>] = &self.constants;
+        let _srvs: &[Option<BoundView>] = &self.srvs;
+        let _uavs: &[Option<BoundView>] = &self.uavs;
+    }
+
     /// The id of the shader that is set, 0 where none is.
     pub fn shader(&self) -> u32
         ensures { result ≡ self.now.shader }
@@ -142,7 +153,8 @@ impl Bindings {
     /// The view in a shader resource slot, from 0 to 15.
     pub fn srv(&self, slot: usize) -> Option<BoundView>
         requires { slot < 16 }
-        ensures { result ≡ slice_index_or self.now.srvs slot None }
+        ensures value { result ≡ slice_index_or self.now.srvs slot None }
+        ensures end { EndFits result }
     {
         self.srvs[slot]
     }
@@ -150,7 +162,8 @@ impl Bindings {
     /// The view in an unordered access slot, from 0 to 7.
     pub fn uav(&self, slot: usize) -> Option<BoundView>
         requires { slot < 8 }
-        ensures { result ≡ slice_index_or self.now.uavs slot None }
+        ensures value { result ≡ slice_index_or self.now.uavs slot None }
+        ensures end { EndFits result }
     {
         self.uavs[slot]
     }
