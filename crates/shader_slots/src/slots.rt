@@ -1,7 +1,7 @@
 ghost use Rattle.std.specs.Prelude.{◌≡◌, ◌%◌, ◌<◌, ◌≤◌, length, map, slice_index, slice_set, None, Some};
 ghost use Rattle.shader_model.specs.Words.{words_of};
 ghost use Rattle.shader_model.specs.Invocation.{words_in};
-ghost use Rattle.shader_slots.specs.Bound.{WithinLimit, unbound, with_constant, with_read, with_write, with_written, part_at};
+ghost use Rattle.shader_slots.specs.Bound.{WithinLimit, around_bound, unbound, words_bound, with_constant, with_read, with_write, with_written, part_at};
 
 use crate::whole::Whole;
 use crate::words;
@@ -81,6 +81,14 @@ impl<'a> Slots<'a> {
         ensures empty { self.new ≡ with_write slot None self.old }
     {
         self.writes.take(slot)
+    }
+
+    /// Takes all that is bound apart: the parts of the unordered access views, by slot.
+    pub fn into_writes(self) -> [Option<Whole>; 8]
+        ensures words { map words_bound result ≡ self.entry.words.writes }
+        ensures around { map around_bound result ≡ self.entry.around }
+    {
+        self.writes.parts
     }
 
     /// No slot has more than 4,194,304 words.

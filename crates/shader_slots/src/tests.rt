@@ -121,7 +121,9 @@ fn parts_of_buffers(rt: HostRuntime) -> Result<(), Fail> {
     assert_eq!(rt; part.into_bytes().as_slice(), CHANGED.as_slice());
     assert!(rt; slots.take_write(7).is_none());
     assert_eq!(rt; slots.write_len(7), 0);
-    let part = slots.take_write(0).expect(&rt, "all bytes");
+    let mut parts = slots.into_writes();
+    assert!(rt; parts[7].is_none());
+    let part = parts[0].take().expect(&rt, "all bytes");
     assert_eq!(rt; part.into_bytes().as_slice(), BYTES.as_slice());
     Ok(())
 }

@@ -9,7 +9,7 @@ const WRITES: usize = 8;
 /// The parts that unordered access views name, by slot.
 #[derive(Drop)]
 pub(crate) struct Writes {
-    parts: [Option<Whole>; WRITES],
+    pub(crate) parts: [Option<Whole>; WRITES],
 }
 
 impl Writes {
