@@ -1,3 +1,4 @@
 pub mod Found
 pub mod Counts
+pub mod Spelled
 pub mod Unused

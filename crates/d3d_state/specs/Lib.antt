@@ -1,4 +1,5 @@
 pub mod Codes
 pub mod Counted
+pub mod Shaders
 pub mod Sorts
 pub mod Meaning

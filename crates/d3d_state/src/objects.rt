@@ -1,35 +1,38 @@
-ghost use Rattle.std.specs.Prelude.{◌≡◌};
-
-use crate::{Queries, Query, Views};
+use crate::{LiveShader, Queries, Query, Shaders, Views};
 use d3d_resources::{Table, TableEnd};
 use d3d_views::{Bindings, BoundView, Predicate};
 use dx_types::{CallNo, Refusal, Shape, ViewShape};
+use shader_model::Shader;
 use std::alloc::{AllocError, Global};
 
-/// What is live, and what is set on the immediate context. No shader and no command list is live yet, so no shader is set,
-/// and the deferred contexts are in the default state.
+/// What is live, and what is set on the immediate context. No command list is live yet, and the deferred contexts are in the
+/// default state.
 #[derive(Drop)]
 pub struct Objects {
     buffers: Table,
     views: Views,
+    shaders: Shaders,
     queries: Queries,
     bindings: Bindings,
-    ghost no_shader: { bindings.shader ≡ 0 },
 }
 
 // What the checks ask.
 impl Objects {
     ghost use Rattle.std.specs.Prelude.{◌≡◌, ◌<◌, ◌^◌, ◌||◌, IfSome};
-    ghost use Rattle.d3d_model.specs.Binding.{holds_buffer, holds_query, holds_view};
+    ghost use Rattle.std.specs.Borrow.{Bor};
+    ghost use Rattle.std.specs.Option.{option_copied, option_map};
+    ghost use Rattle.shader_model.specs.Shader.{Tree, program_of};
+    ghost use Rattle.d3d_model.specs.Binding.{holds_buffer, holds_query, holds_shader, holds_view};
     ghost use Rattle.d3d_model.specs.Check.{first_failed};
     ghost use Rattle.d3d_model.specs.D3dState as model;
-    ghost use Rattle.d3d_model.specs.D3dState.{bindings_of, bound_view, buffer_of, no_objects};
+    ghost use Rattle.d3d_model.specs.D3dState.{bindings_of, bound_view, buffer_of, no_objects, words_set};
     ghost use Rattle.d3d_model.specs.IdMap as ids;
     ghost use Rattle.d3d_model.specs.Stream.{is_listed};
     ghost use Rattle.d3d_model.specs.Verdict.{has_view, is_set, query_is};
     ghost use Rattle.d3d_model.specs.View.{view_end};
     ghost use Rattle.d3d_resources.specs.Creation.{table_checks};
     ghost use Rattle.d3d_state.specs.Meaning.{objects_of};
+    ghost use Rattle.d3d_state.specs.Shaders.{program_by};
     ghost use Rattle.d3d_views.specs.Limits.{EndFits};
 
     /// Nothing is live, and nothing is set.
@@ -39,6 +42,7 @@ impl Objects {
         Objects {
             buffers: Table::new(alloc),
             views: Views::new(alloc),
+            shaders: Shaders::new(alloc),
             queries: Queries::new(alloc),
             bindings: Bindings::new(),
         }
@@ -78,6 +82,22 @@ impl Objects {
         Some(BoundView { view: id, shape })
     }
 
+    /// A live shader.
+    pub fn shader(&self, id: u32) -> Option<&LiveShader>
+        ensures { option_copied result ≡ ids.get (objects_of self.now).shaders id }
+    {
+        self.shaders.get(id)
+    }
+
+    /// The tree of the shader that is set on the immediate context; none where none is set.
+    pub fn shader_now(&self) -> Option<&Shader>
+        ensures { let o = objects_of self.now in
+            option_map (λ (s : Bor Tree). program_of s.now) result ≡ program_by (words_set o (bindings_of o 0)) }
+    {
+        let shader = self.shaders.get(self.bindings.shader())?;
+        Some(shader.tree())
+    }
+
     /// A live query.
     pub fn query(&self, id: u32) -> Option<Query>
         ensures { result ≡ ids.get (objects_of self.now).queries id }
@@ -87,8 +107,7 @@ impl Objects {
 
     /// What is set on the immediate context.
     pub fn bindings(&self) -> &Bindings
-        ensures set { result.now ≡ bindings_of (objects_of self.now) 0 }
-        ensures no_shader { result.now.shader ≡ 0 }
+        ensures { result.now ≡ bindings_of (objects_of self.now) 0 }
     {
         &self.bindings
     }
@@ -107,6 +126,15 @@ impl Objects {
             result ≡ (is_set o (λ b. holds_view b id) || is_listed o 2 id) }
     {
         self.bindings.holds_view(id)
+    }
+
+    /// Whether a shader may not be destroyed: it is set, or a command list names it. The deferred contexts have none set,
+    /// which is the id 0.
+    pub fn uses_shader(&self, id: u32) -> bool
+        ensures { let o = objects_of self.now in
+            result ≡ (is_set o (λ b. holds_shader b id) || is_listed o 3 id) }
+    {
+        id == 0 || self.bindings.holds_shader(id)
     }
 
     /// Whether a query may not be destroyed: it is the predicate's, it is begun, or a command list names it.
@@ -139,7 +167,7 @@ impl Objects {
     ghost use Rattle.d3d_model.specs.IdMap as ids;
     ghost use Rattle.d3d_model.specs.View.{view_end};
     ghost use Rattle.d3d_resources.specs.Creation.{table_checks};
-    ghost use Rattle.d3d_state.specs.Meaning.{objects_of, with_buffer, with_query, with_view};
+    ghost use Rattle.d3d_state.specs.Meaning.{objects_of, with_buffer, with_query, with_shader, with_view};
     ghost use Rattle.d3d_views.specs.Limits.{WordFits};
     ghost use Rattle.d3d_views.specs.Meaning.{meaning};
 
@@ -166,6 +194,14 @@ impl Objects {
         self.views.insert(id, shape)
     }
 
+    /// One more shader is live. Want of memory changes nothing.
+    pub fn create_shader(&mut self, id: u32, shader: LiveShader) -> Result<(), AllocError>
+        ensures created { OnOk result (objects_of self.new ≡ with_shader (objects_of self.old) id shader) }
+        ensures unchanged { OnErr result (objects_of self.new ≡ objects_of self.old) }
+    {
+        self.shaders.insert(id, shader)
+    }
+
     /// One more query is live. Want of memory changes nothing.
     pub fn create_query(&mut self, id: u32, query: Query) -> Result<(), AllocError>
         ensures created { OnOk result (objects_of self.new ≡ with_query (objects_of self.old) id query) }
@@ -188,6 +224,13 @@ impl Objects {
         let _ = self.views.remove(id);
     }
 
+    /// A shader is live no more.
+    pub fn destroy_shader(&mut self, id: u32)
+        ensures { objects_of self.new ≡ destroyed (objects_of self.old) 3 id }
+    {
+        self.shaders.remove(id);
+    }
+
     /// A query is live no more.
     pub fn destroy_query(&mut self, id: u32)
         ensures { objects_of self.new ≡ destroyed (objects_of self.old) 4 id }
@@ -195,11 +238,11 @@ impl Objects {
         self.queries.remove(id);
     }
 
-    /// Sets no shader: none is live.
-    pub fn set_no_shader(&mut self)
-        ensures { (n : ℕ) → objects_of self.new ≡ objects_after n (objects_of self.old) 0 (calls.SetShader 0) }
+    /// Sets a shader by its id; 0 for none.
+    pub fn set_shader(&mut self, id: u32)
+        ensures { (n : ℕ) → objects_of self.new ≡ objects_after n (objects_of self.old) 0 (calls.SetShader id) }
     {
-        self.bindings.set_shader(0);
+        self.bindings.set_shader(id);
     }
 
     /// Sets a buffer in a constant slot, from 0 to 13; id 0 empties it.
@@ -228,7 +271,7 @@ impl Objects {
         self.bindings.set_uav(slot as usize, bound);
     }
 
-    /// Empties all slots, and sets no predication.
+    /// Sets no shader, empties all slots, and sets no predication.
     pub fn clear_state(&mut self)
         ensures { (n : ℕ) → objects_of self.new ≡ objects_after n (objects_of self.old) 0 calls.ClearState }
     {

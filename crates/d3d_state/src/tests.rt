@@ -113,9 +113,45 @@ fn queries(rt: HostRuntime) -> Result<(), Fail> {
     objects.set_predicate(Predicate::Never);
     objects.begin(5);
     assert_eq!(rt; objects.query(5).ok_or("live")?.has_result(), false);
-    objects.set_no_shader();
-    assert_eq!(rt; objects.bindings().shader(), 0);
     objects.destroy_query(6);
     assert_eq!(rt; objects.query(6), None);
+    Ok(())
+}
+
+/// The token bytes of a shader of one thread that does nothing, and of one that also declares that it has no temporaries.
+static SHADERS: [&[u8]; 2] = [
+    &[
+        1, 0, 0, 0, 6, 0, 0, 0, 1, 4, 0, 0, 1, 0, 0, 0, 1, 0, 0, 0, 1, 0, 0, 0,
+    ],
+    &[
+        1, 0, 0, 0, 8, 0, 0, 0, 1, 4, 0, 0, 2, 0, 0, 0, 3, 0, 0, 0, 4, 0, 0, 0, 2, 2, 0, 0, 0, 0,
+        0, 0,
+    ],
+];
+
+// A shader is in use where it is set, and its tree is what its bytes spell.
+#[test]
+fn shaders(rt: HostRuntime) -> Result<(), Fail> {
+    let mut objects = Objects::new(rt.alloc());
+    assert!(rt; objects.shader(3).is_none());
+    assert!(rt; LiveShader::decode(rt.alloc(), 1, &[1, 0, 0, 0])?.is_none());
+    for (id, call, words) in [(3, 7, SHADERS[0]), (4, 9, SHADERS[1])] {
+        let shader = LiveShader::decode(rt.alloc(), call, words)?.ok_or("good words")?;
+        objects.create_shader(id, shader)?;
+        assert_eq!(rt; objects.shader(id).ok_or("live")?.call(), call);
+        assert_eq!(rt; objects.uses_shader(id), false);
+    }
+    assert!(rt; objects.shader_now().is_none());
+    for (id, group) in [(3u32, [1, 1, 1]), (4, [2, 3, 4])] {
+        objects.set_shader(id);
+        assert_eq!(rt; objects.shader_now().ok_or("set")?.group(), group);
+        assert_eq!(rt; objects.uses_shader(id), true);
+        assert_eq!(rt; objects.uses_shader(7 - id), false);
+    }
+    objects.destroy_shader(3);
+    assert!(rt; objects.shader(3).is_none());
+    assert_eq!(rt; objects.shader(4).ok_or("live")?.tree().temps(), 0);
+    objects.clear_state();
+    assert!(rt; objects.shader_now().is_none());
     Ok(())
 }

@@ -7,5 +7,5 @@ use Rattle.d3d_state.proofs.objects.Objects.destroy_buffer.Goals as goal
 pub returns : goal.returns
 returns c =
     let o = c.args.self.now in
-    ap (λ (b : Buffers). objects_from b o.views o.queries o.bindings)
+    ap (λ (b : Buffers). objects_from b o.views o.shaders o.queries o.bindings)
     (removed_anyway o.buffers c.remove.new.self c.args.id c.remove.result c.remove.ensures.value c.remove.ensures.removed c.remove.ensures.unchanged)

@@ -6,5 +6,5 @@ use Rattle.d3d_state.proofs.objects.Objects.new.Goals as goal
 
 pub returns : goal.returns
 returns c =
-    rw (c.new.ensures, c.new-2.ensures, c.new-3.ensures)
-    (ap (λ (xs : List Context). record { buffers = ids.empty; views = ids.empty; shaders = ids.empty; queries = ids.empty; lists = ids.empty; contexts = xs }) (unused_all c.new-4.result c.new-4.ensures))
+    rw (c.new.ensures, c.new-2.ensures, c.new-3.ensures, c.new-4.ensures)
+    (ap (λ (xs : List Context). record { buffers = ids.empty; views = ids.empty; shaders = ids.empty; queries = ids.empty; lists = ids.empty; contexts = xs }) (unused_all c.new-5.result c.new-5.ensures))
