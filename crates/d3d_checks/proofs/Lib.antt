@@ -3,3 +3,4 @@ pub mod NoEffect
 pub mod BoundRanges
 pub mod Unasked
 pub mod Kept
+pub mod Slots

@@ -7,13 +7,13 @@ use Rattle.dx_types.specs.declared.refusal.Refusal.TheVariants.{UnknownId, IdInU
 use Rattle.dx_types.specs.declared.shape.Shape.{Shape}
 use Rattle.call_log.specs.Call as calls
 use Rattle.call_log.specs.Call.{Call}
-use Rattle.d3d_model.specs.Binding.{Bindings, holds_shader}
-use Rattle.d3d_model.specs.Check.{Check, first_failed, is_id, is_named}
+use Rattle.d3d_model.specs.Binding.{Bindings}
+use Rattle.d3d_model.specs.Check.{Check, first_failed, is_id}
 use Rattle.d3d_model.specs.D3dState.{Objects, Numbered, Shader, buffer_of}
 use Rattle.d3d_model.specs.IdMap.{get, empty}
 use Rattle.d3d_model.specs.Resource.{Buffers, is_one}
-use Rattle.d3d_model.specs.Stream.{is_listed}
-use Rattle.d3d_model.specs.Verdict.{buffer_checks, call_checks, is_too_long, is_wrong_at, place_of, is_set, unused_buffer, unused_view, unused_query, verdict}
+use Rattle.d3d_model.specs.Shader.{decodes}
+use Rattle.d3d_model.specs.Verdict.{buffer_checks, call_checks, is_too_long, is_wrong_at, place_of, unused_buffer, unused_view, unused_shader, unused_query, verdict}
 use Rattle.d3d_model.specs.View.{view_end}
 use Rattle.d3d_model.proofs.Checked.{all_passed}
 use Rattle.d3d_model.proofs.Maps.{get-empty}
@@ -21,10 +21,14 @@ use Rattle.d3d_model.specs.Past.{Past}
 use Rattle.d3d_resources.specs.Creation.{is_wrong_usage, is_wrong_data, table_checks, shape_of}
 use Rattle.d3d_resources.proofs.CheckOrder.{whole_order}
 use Rattle.d3d_state.specs.Codes.{Views, Queries}
+use Rattle.d3d_state.specs.Shaders.{Shaders}
 use Rattle.d3d_state.specs.Meaning.{objects_from}
 use Rattle.d3d_views.proofs.Spans.{ends_inside}
 use Rattle.d3d_checks.specs.Accepted.{Accepted}
 use Rattle.d3d_checks.specs.Asked.{refusal_of}
+use Rattle.d3d_checks.specs.Created.{shader_made, spells_shader, token_words}
+use Rattle.d3d_state.specs.Shaders.{shader_from}
+use Rattle.std.specs.Option.{option_and_then, option_map_or}
 use Rattle.d3d_checks.specs.NewViews.{view_call, described_by}
 use Rattle.d3d_checks.specs.declared.new_view.NewView.{NewView}
 
@@ -75,57 +79,59 @@ view_inside o s v live a =
     let passed = rw live at (all_passed (all_checks o a.past (view_call v)) a.passes) in
     ends_inside v.first v.count (described_by s v).unit s.size passed.1.1.1.1.1.1.0
 
-no_shader : (named : Bool) (o : Option Shader) → o ≡ None → named && not (is_some o) ≡ false → named ≡ false
-no_shader true None e p = absurd cc
-no_shader false o e p = refl
-no_shader true (Some s) e p = absurd cc
+not_false : (b : Bool) → not b ≡ false → b ≡ true
+not_false true e = refl
+not_false false e = absurd cc
 
-not_named : (id : ℕ) → is_named id ≡ false → id ≡ 0
-not_named id e = grind (arith, nat_tests)
+-- the token bytes of an accepted creation spell a shader
+pub spells : (o : Objects) (id : ℕ) (words : List ℕ) → Accepted o (calls.CreateShader id words) → decodes words ≡ true
+spells o id words a =
+    let passed = all_passed (all_checks o a.past (calls.CreateShader id words)) a.passes in
+    not_false (decodes words) passed.1.1.1.0
 
--- no shader is live that could be set
-pub only_none : (buffers : Buffers) (views : Views) (queries : Queries) (b : Bindings) (id : ℕ) → Accepted (objects_from buffers views queries b) (calls.SetShader id) → id ≡ 0
-only_none buffers views queries b id a =
-    let passed = all_passed (all_checks (objects_from buffers views queries b) a.past (calls.SetShader id)) a.passes in
-    not_named id (no_shader (is_named id) (get empty id) (get-empty Shader id) passed.1.0)
+made : (b : Bool) (s : Shader) → b ≡ true → (if b then Some s else None) ≡ Some s
+made b s e = rw e refl
 
-refuses : (one two three four five absent unlisted used : Bool) (a b d : List Check) (rest : List Check) → one ≡ false → two ≡ false → four ≡ false → absent ≡ true → unlisted ≡ true
+-- so there is a shader
+pub made_some : (o : Objects) (n id : ℕ) (words : List ℕ) (shader : Option Shader) → Accepted o (calls.CreateShader id words) → shader ≡ shader_made n (calls.CreateShader id words)
+    → shader ≡ Some (record { call = n; words = words })
+made_some o n id words shader a e = e ∙ made (decodes words) (record { call = n; words = words }) (spells o id words a)
+
+refuses : (one two three four five unlisted : Bool) (a b c d : List Check) (rest : List Check) → one ≡ false → two ≡ false → three ≡ false → four ≡ false → unlisted ≡ true
     → first_failed
-    ((if one then a else if two then b else if three then (absent, UnknownId) ∷ (used, IdInUse) ∷ [] else if four then d else if five then (unlisted, UnknownList) ∷ [] else (true, BadUsage) ∷ []) ++ rest)
+    ((if one then a else if two then b else if three then c else if four then d else if five then (unlisted, UnknownList) ∷ [] else (true, BadUsage) ∷ []) ++ rest)
     ≡ None → ⊥
-refuses true two three four five absent unlisted used a b d rest e1 e2 e4 ea eu e = absurd cc
-refuses false true three four five absent unlisted used a b d rest e1 e2 e4 ea eu e = absurd cc
-refuses false false true four five true unlisted used a b d rest e1 e2 e4 ea eu e = absurd cc
-refuses false false true four five false unlisted used a b d rest e1 e2 e4 ea eu e = absurd cc
-refuses false false false true five absent unlisted used a b d rest e1 e2 e4 ea eu e = absurd cc
-refuses false false false false true absent true used a b d rest e1 e2 e4 ea eu e = absurd cc
-refuses false false false false true absent false used a b d rest e1 e2 e4 ea eu e = absurd cc
-refuses false false false false false absent unlisted used a b d rest e1 e2 e4 ea eu e = absurd cc
+refuses true two three four five unlisted a b c d rest e1 e2 e3 e4 eu e = absurd cc
+refuses false true three four five unlisted a b c d rest e1 e2 e3 e4 eu e = absurd cc
+refuses false false true four five unlisted a b c d rest e1 e2 e3 e4 eu e = absurd cc
+refuses false false false true five unlisted a b c d rest e1 e2 e3 e4 eu e = absurd cc
+refuses false false false false true true a b c d rest e1 e2 e3 e4 eu e = absurd cc
+refuses false false false false true false a b c d rest e1 e2 e3 e4 eu e = absurd cc
+refuses false false false false false unlisted a b c d rest e1 e2 e3 e4 eu e = absurd cc
 
--- what is destroyed is a buffer, a view or a query
-pub destroys_live : (buffers : Buffers) (views : Views) (queries : Queries) (b : Bindings) (class id : ℕ) → Accepted (objects_from buffers views queries b) (calls.Destroy class id)
-    → (class ≡ 1 → ⊥) → (class ≡ 2 → ⊥) → (class ≡ 4 → ⊥) → ⊥
-destroys_live buffers views queries b class id a not1 not2 not4 =
-    let o = objects_from buffers views queries b in
-    refuses (class == 1) (class == 2) (class == 3) (class == 4) (class == 5) (not (is_some (get {X = Shader} empty id))) (not (is_some (get {X = List Numbered} empty id)))
-    (is_set o (λ b. holds_shader b id) || is_listed o 3 id) (unused_buffer o id) (unused_view o id) (unused_query o id) ((false, TooMuchMemory) ∷ [])
-    (differs class 1 not1) (differs class 2 not2) (differs class 4 not4) (rw (get-empty Shader id) refl) (rw (get-empty (List Numbered) id) refl) a.passes
+-- what is destroyed is a buffer, a view, a shader or a query
+pub destroys_live : (buffers : Buffers) (views : Views) (shaders : Shaders) (queries : Queries) (b : Bindings) (class id : ℕ) → Accepted (objects_from buffers views shaders queries b) (calls.Destroy class id)
+    → (class ≡ 1 → ⊥) → (class ≡ 2 → ⊥) → (class ≡ 3 → ⊥) → (class ≡ 4 → ⊥) → ⊥
+destroys_live buffers views shaders queries b class id a not1 not2 not3 not4 =
+    let o = objects_from buffers views shaders queries b in
+    refuses (class == 1) (class == 2) (class == 3) (class == 4) (class == 5) (not (is_some (get {X = List Numbered} empty id)))
+    (unused_buffer o id) (unused_view o id) (unused_shader o id) (unused_query o id) ((false, TooMuchMemory) ∷ [])
+    (differs class 1 not1) (differs class 2 not2) (differs class 3 not3) (differs class 4 not4) (rw (get-empty (List Numbered) id) refl) a.passes
 
 -- no list is live that could be executed
-pub executes_none : (buffers : Buffers) (views : Views) (queries : Queries) (b : Bindings) (list flag : ℕ) → Accepted (objects_from buffers views queries b) (calls.ExecuteList list flag) → ⊥
-executes_none buffers views queries b list flag a =
-    let passed = rw (get-empty (List Numbered) list) at (all_passed (all_checks (objects_from buffers views queries b) a.past (calls.ExecuteList list flag)) a.passes) in
+pub executes_none : (buffers : Buffers) (views : Views) (shaders : Shaders) (queries : Queries) (b : Bindings) (list flag : ℕ) → Accepted (objects_from buffers views shaders queries b) (calls.ExecuteList list flag) → ⊥
+executes_none buffers views shaders queries b list flag a =
+    let passed = rw (get-empty (List Numbered) list) at (all_passed (all_checks (objects_from buffers views shaders queries b) a.past (calls.ExecuteList list flag)) a.passes) in
     apart passed.1.0
 
--- no shader is set that could be run
-pub dispatches_none : (buffers : Buffers) (views : Views) (queries : Queries) (b : Bindings) (x y z : ℕ) → b.shader ≡ 0
-    → Accepted (objects_from buffers views queries b) (calls.Dispatch x y z) → ⊥
-dispatches_none buffers views queries b x y z none a =
-    let passed = rw none at (all_passed (all_checks (objects_from buffers views queries b) a.past (calls.Dispatch x y z)) a.passes) in
-    apart passed.1.0
+spelled_if : (s : Shader) (b : Bool) → is_some (if b then Some s else None) ≡ b
+spelled_if s true = refl
+spelled_if s false = refl
 
-pub indirects_none : (buffers : Buffers) (views : Views) (queries : Queries) (b : Bindings) (res offset : ℕ) → b.shader ≡ 0
-    → Accepted (objects_from buffers views queries b) (calls.DispatchIndirect res offset) → ⊥
-indirects_none buffers views queries b res offset none a =
-    let passed = rw none at (all_passed (all_checks (objects_from buffers views queries b) a.past (calls.DispatchIndirect res offset)) a.passes) in
-    apart passed.1.1.1.1.0
+spells_option : (n : ℕ) (words : Option (List ℕ)) → is_some (option_and_then (shader_from n) words) ≡ option_map_or decodes words false
+spells_option n None = refl
+spells_option n (Some words) = spelled_if (record { call = n; words = words }) (decodes words)
+
+-- whether there is a shader tells whether the call creates one whose token bytes spell one
+pub is_spelled : (n : ℕ) (c : Call) (shader : Option Shader) → shader ≡ shader_made n c → is_some shader ≡ spells_shader c
+is_spelled n c shader e = ap is_some e ∙ spells_option n (token_words c)

@@ -1,15 +1,11 @@
 -- Which calls are built, and which of the immediate context are accepted.
-use Rattle.std.specs.Prelude.{◌≡◌, ℕ, ◌==◌, Bool, true, false, not, ◌&&◌, ◌||◌, Option, None, IsSome}
+use Rattle.std.specs.Prelude.{◌≡◌, ℕ, ◌==◌, Bool, true, false, not, ◌&&◌, Option, None, IsSome}
 use Rattle.call_log.specs.Call as calls
 use Rattle.call_log.specs.Call.{Call, Issued}
 use Rattle.d3d_model.specs.D3dState.{Objects, buffer_of}
 use Rattle.d3d_model.specs.Past.{Past}
 use Rattle.d3d_model.specs.Verdict.{verdict, is_wrong_at, place_of}
 use Rattle.d3d_uses.specs.Summary.{Uses, Summarises}
-
-abbrev pub is_shader : Call → Bool
-is_shader (calls.CreateShader id words) = true
-is_shader _ = false
 
 abbrev pub is_draw : Call → Bool
 is_draw (calls.Draw kind body) = true
@@ -19,13 +15,13 @@ is_draw _ = false
 abbrev pub is_recorded : Issued → Bool
 is_recorded i = not (i.context == 0) && not (is_wrong_at (place_of i.call) i.context)
 
--- no shader is created yet, and no deferred context records
+-- no deferred context records yet
 abbrev pub is_unbuilt : Issued → Bool
-is_unbuilt i = is_shader i.call || is_recorded i
+is_unbuilt i = is_recorded i
 
--- no shader is created, and nothing is drawn
+-- nothing is drawn
 abbrev pub is_built : Call → Bool
-is_built c = not (is_shader c || is_draw c)
+is_built c = not (is_draw c)
 
 -- a call that is built is accepted on the immediate context, after some calls
 pub record Accepted (o : Objects) (c : Call) : Type 0 where
@@ -45,10 +41,11 @@ is_creation _ = false
 abbrev pub Tells : Past → Objects → Uses → Type 0
 Tells past o uses = (res : ℕ) → IsSome (buffer_of o res) → Summarises past uses res
 
--- the call makes a buffer or a view, or destroys something
+-- the call makes a buffer, a view or a shader, or destroys something
 abbrev pub is_making : Call → Bool
 is_making (calls.Buffer id size usage bind misc stride bytes) = true
 is_making (calls.View view res kind form components first count) = true
+is_making (calls.CreateShader id words) = true
 is_making (calls.Destroy class id) = true
 is_making _ = false
 

@@ -8,6 +8,7 @@ ghost use Rattle.d3d_model.specs.D3dState.{bindings_of, bound_view};
 ghost use Rattle.d3d_model.specs.Stream.{predicated, range_of, whole_of};
 ghost use Rattle.d3d_state.specs.Meaning.{objects_of};
 
+use crate::dispatches::{COUNT_BYTES, push_dispatch};
 use crate::numbers::WRITE_STAGING;
 use call_log::Call;
 use d3d_state::Objects;
@@ -26,6 +27,11 @@ pub fn push_bound(
         ≡ ranges.old.items ++ bound_of (objects_of objects.now) (call_view call.now)) }
 {
     match *call {
+        Call::Dispatch { .. } => push_dispatch(ranges, objects),
+        Call::DispatchIndirect { res, offset } => {
+            push_some(ranges, range_of(res, u64::from(offset), COUNT_BYTES))?;
+            push_dispatch(ranges, objects)
+        }
         Call::CopyRegion {
             target,
             target_offset,
@@ -102,7 +108,11 @@ fn range_of_view(objects: &Objects, view: u32) -> Option<ResRange>
     Some(view_range(&bound.shape))
 }
 
-fn push_some(ranges: &mut Vec<ResRange>, range: Option<ResRange>) -> Result<(), AllocError>
+/// Appends a range, if there is one.
+pub(crate) fn push_some(
+    ranges: &mut Vec<ResRange>,
+    range: Option<ResRange>,
+) -> Result<(), AllocError>
     ensures { OnOk result (ranges.new.items ≡ ranges.old.items ++ option_to_list range) }
 {
     if let Some(range) = range {

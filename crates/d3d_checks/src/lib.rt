@@ -3,6 +3,7 @@
 #![tactic(auto)]
 
 mod bound;
+mod dispatches;
 mod effect;
 mod keep;
 mod maps;
@@ -12,12 +13,16 @@ mod queries;
 mod refusals;
 mod resources;
 mod settings;
+mod shaders;
 mod work;
 
 pub use bound::push_bound;
 pub use effect::apply;
 pub use keep::keep_call;
 pub use refusals::verdict;
+pub use shaders::decode_created;
 
+#[cfg(test)]
+mod shader_tests;
 #[cfg(test)]
 mod tests;

@@ -1,28 +1,34 @@
 ghost use Rattle.std.specs.Prelude.{◌≡◌, None, true, false};
 ghost use Rattle.call_log.specs.View.{call_view};
 ghost use Rattle.d3d_checks.specs.Accepted.{Tells, is_built, is_draw, is_making, is_setting, is_unbuilt};
+ghost use Rattle.d3d_checks.specs.Created.{spells_shader};
 ghost use Rattle.d3d_model.specs.Past.{Past};
 ghost use Rattle.d3d_model.specs.Verdict as model;
 ghost use Rattle.d3d_state.specs.Meaning.{objects_of};
 
+use crate::dispatches::{dispatch_refusal, indirect_refusal};
 use crate::maps::{map_read_refusal, map_write_refusal};
 use crate::new_view::NewView;
 use crate::numbers::shape_from;
 use crate::queries::{begin_refusal, create_query_refusal, end_refusal, get_data_refusal};
 use crate::resources::{buffer_refusal, destroy_refusal, view_refusal};
-use crate::settings::{
-    constant_refusal, predication_refusal, shader_refusal, srv_refusal, uav_refusal,
-};
-use crate::work::{
-    clear_refusal, copy_refusal, copy_region_refusal, indirect_refusal, update_refusal,
-};
+use crate::settings::{constant_refusal, predication_refusal, srv_refusal, uav_refusal};
+use crate::shaders::{creation_refusal, shader_refusal};
+use crate::work::{clear_refusal, copy_refusal, copy_region_refusal, update_refusal};
 use call_log::Call;
 use d3d_state::Objects;
 use d3d_uses::Uses;
 use dx_types::Refusal;
 
-/// Why a call on a context is refused, if it is.
-pub fn verdict(objects: &Objects, uses: &Uses, context: u16, call: &Call<'_>) -> Option<Refusal>
+/// Why a call on a context is refused, if it is. `spells` says whether it creates a shader whose token words spell one.
+pub fn verdict(
+    objects: &Objects,
+    uses: &Uses,
+    context: u16,
+    call: &Call<'_>,
+    spells: bool,
+) -> Option<Refusal>
+    requires spells { spells ≡ spells_shader (call_view call.now) }
     requires built { is_unbuilt (record { context = context; call = call_view call.now }) ≡ false }
     requires no_draw { is_draw (call_view call.now) ≡ false }
     ensures why { (past : Past) → Tells past (objects_of objects.now) uses.now
@@ -32,12 +38,13 @@ pub fn verdict(objects: &Objects, uses: &Uses, context: u16, call: &Call<'_>) ->
     if context != 0 {
         return Some(Refusal::WrongContext);
     }
-    call_refusal(objects, uses, call)
+    call_refusal(objects, uses, call, spells)
 }
 
 /// Why a call of the immediate context is refused.
-fn call_refusal(objects: &Objects, uses: &Uses, call: &Call<'_>) -> Option<Refusal>
-    requires { is_built (call_view call.now) ≡ true }
+fn call_refusal(objects: &Objects, uses: &Uses, call: &Call<'_>, spells: bool) -> Option<Refusal>
+    requires spells { spells ≡ spells_shader (call_view call.now) }
+    requires built { is_built (call_view call.now) ≡ true }
     ensures { (past : Past) → Tells past (objects_of objects.now) uses.now
         → result ≡ model.verdict (objects_of objects.now) past (record { context = 0; call = call_view call.now }) }
 {
@@ -74,6 +81,7 @@ fn call_refusal(objects: &Objects, uses: &Uses, call: &Call<'_>) -> Option<Refus
             };
             view_refusal(objects, &ask)
         }
+        Call::CreateShader { id, .. } => creation_refusal(objects, id, spells),
         Call::Destroy { class, id } => destroy_refusal(objects, class, id),
         _ => setting_refusal(objects, uses, call),
     }
@@ -114,7 +122,7 @@ fn work_refusal(objects: &Objects, uses: &Uses, call: &Call<'_>) -> Option<Refus
         → result ≡ model.verdict (objects_of objects.now) past (record { context = 0; call = call_view call.now }) }
 {
     match *call {
-        Call::Dispatch { .. } => Some(Refusal::BadShader),
+        Call::Dispatch { x, y, z } => dispatch_refusal(objects, x, y, z),
         Call::DispatchIndirect { res, offset } => indirect_refusal(objects, res, offset),
         Call::CopyRegion {
             target,

@@ -106,14 +106,14 @@ fn is_wrong_form(form: u32, components: u32) -> bool
 }
 
 /// Why an object is not destroyed. Its class is 1 for a buffer, 2 for a view, 3 for a shader, 4 for a query, and 5 for a
-/// command list; no shader and no list is live.
+/// command list; no list is live.
 pub(crate) fn destroy_refusal(objects: &Objects, class: u32, id: u32) -> Option<Refusal>
     ensures { (past : Past) → result ≡ refusal_of (objects_of objects.now) past (calls.Destroy class id) }
 {
     match class {
         1 => refusal_if(objects.buffer(id).is_some(), objects.uses_buffer(id)),
         2 => refusal_if(objects.view(id).is_some(), objects.uses_view(id)),
-        3 => Some(Refusal::UnknownId),
+        3 => refusal_if(objects.shader(id).is_some(), objects.uses_shader(id)),
         4 => refusal_if(objects.query(id).is_some(), objects.uses_query(id)),
         5 => Some(Refusal::UnknownList),
         _ => Some(Refusal::BadUsage),

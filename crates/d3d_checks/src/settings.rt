@@ -20,17 +20,6 @@ const LAST_UAV_SLOT: u32 = 7;
 /// The bytes of a predicate's word.
 const WORD_BYTES: u64 = 4;
 
-/// Why a shader is not set: none is live, so only the id 0 is taken.
-pub(crate) fn shader_refusal(objects: &Objects, id: u32) -> Option<Refusal>
-    ensures { (past : Past) → result ≡ refusal_of (objects_of objects.now) past (calls.SetShader id) }
-{
-    if id == 0 {
-        None
-    } else {
-        Some(Refusal::UnknownId)
-    }
-}
-
 /// Why a buffer is not set in a constant slot.
 pub(crate) fn constant_refusal(objects: &Objects, slot: u32, res: u32) -> Option<Refusal>
     ensures { (past : Past) → result ≡ refusal_of (objects_of objects.now) past (calls.SetConstant slot res) }

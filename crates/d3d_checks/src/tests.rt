@@ -46,11 +46,11 @@ fn live_objects(rt: &HostRuntime) -> Result<Objects, Fail> {
     Ok(objects)
 }
 
-// Why a call of the immediate context is refused; of a draw and of a shader's creation nothing is asked.
+// Why a call of the immediate context is refused; of a draw nothing is asked, and a shader's creation is asked of elsewhere.
 fn why(objects: &Objects, uses: &Uses, call: &Call<'_>) -> Option<Refusal> {
     match call {
         Call::CreateShader { .. } | Call::Draw { .. } => None,
-        _ => verdict(objects, uses, 0, call),
+        _ => verdict(objects, uses, 0, call, false),
     }
 }
 
@@ -219,28 +219,8 @@ fn work(rt: HostRuntime) -> Result<(), Fail> {
             Some(Refusal::UnknownId),
         ),
         (
-            Call::Dispatch { x: 1, y: 1, z: 1 },
-            Some(Refusal::BadShader),
-        ),
-        (
-            Call::DispatchIndirect { res: 7, offset: 2 },
-            Some(Refusal::UnknownId),
-        ),
-        (
             Call::DispatchIndirect { res: 1, offset: 2 },
             Some(Refusal::BadBind),
-        ),
-        (
-            Call::DispatchIndirect { res: 6, offset: 2 },
-            Some(Refusal::OutOfRange),
-        ),
-        (
-            Call::DispatchIndirect { res: 6, offset: 8 },
-            Some(Refusal::OutOfRange),
-        ),
-        (
-            Call::DispatchIndirect { res: 6, offset: 4 },
-            Some(Refusal::BadShader),
         ),
         (Call::Flush, None),
         (Call::FinishList { list: 1 }, Some(Refusal::WrongContext)),
@@ -295,8 +275,6 @@ fn settings(rt: HostRuntime) -> Result<(), Fail> {
     let mut objects = live_objects(&rt)?;
     let uses = Uses::new(rt.alloc());
     let rows = [
-        (Call::SetShader { id: 0 }, None),
-        (Call::SetShader { id: 1 }, Some(Refusal::UnknownId)),
         (Call::SetConstant { slot: 13, res: 5 }, None),
         (
             Call::SetConstant { slot: 14, res: 0 },
@@ -404,7 +382,6 @@ fn resources(rt: HostRuntime) -> Result<(), Fail> {
         (Call::Destroy { class: 1, id: 2 }, None),
         (Call::Destroy { class: 1, id: 9 }, Some(Refusal::UnknownId)),
         (Call::Destroy { class: 2, id: 1 }, None),
-        (Call::Destroy { class: 3, id: 1 }, Some(Refusal::UnknownId)),
         (Call::Destroy { class: 4, id: 1 }, None),
         (
             Call::Destroy { class: 5, id: 1 },
@@ -415,7 +392,7 @@ fn resources(rt: HostRuntime) -> Result<(), Fail> {
     objects.set_srv(0, 1);
     let set = [(Call::Destroy { class: 2, id: 1 }, Some(Refusal::IdInUse))];
     expect(&rt, &objects, &uses, &set);
-    let flush = verdict(&objects, &uses, 17, &Call::Flush);
+    let flush = verdict(&objects, &uses, 17, &Call::Flush, false);
     assert_eq!(rt; flush, Some(Refusal::WrongContext));
     Ok(())
 }

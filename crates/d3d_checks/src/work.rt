@@ -5,29 +5,9 @@ ghost use Rattle.d3d_model.specs.Past.{Past};
 ghost use Rattle.d3d_model.specs.Resource.{is_dynamic, is_immutable};
 ghost use Rattle.d3d_state.specs.Meaning.{objects_of};
 
-use crate::numbers::{INDIRECT_ARGUMENTS, passes_end};
-use d3d_resources::has_bit;
+use crate::numbers::passes_end;
 use d3d_state::Objects;
 use dx_types::{Refusal, Shape, Usage};
-
-/// The bytes of the three counts of an indirect dispatch.
-const COUNT_BYTES: u64 = 12;
-
-/// Why a dispatch is refused whose counts stand in a buffer: at the least because no shader is set.
-pub(crate) fn indirect_refusal(objects: &Objects, res: u32, offset: u32) -> Option<Refusal>
-    ensures { (past : Past) → result ≡ refusal_of (objects_of objects.now) past (calls.DispatchIndirect res offset) }
-{
-    let Some(shape) = objects.buffer(res) else {
-        return Some(Refusal::UnknownId);
-    };
-    if !has_bit(shape.misc, INDIRECT_ARGUMENTS) {
-        Some(Refusal::BadBind)
-    } else if offset % 4 != 0 || passes_end(&shape, offset, COUNT_BYTES) {
-        Some(Refusal::OutOfRange)
-    } else {
-        Some(Refusal::BadShader)
-    }
-}
 
 /// Whether no copy may write the buffer.
 fn is_no_target(shape: &Shape) -> bool

@@ -1,17 +1,8 @@
-use Rattle.std.proofs.Common.{subst}
-use Rattle.call_log.specs.View.{call_view}
-use Rattle.call_log.specs.declared.call.Call.{Call}
-use Rattle.d3d_state.specs.Meaning.{objects_of}
-use Rattle.d3d_checks.specs.Accepted.{Accepted}
 use Rattle.d3d_checks.proofs.NoEffect.{no_effect}
-use Rattle.d3d_checks.proofs.Passes.{only_none}
 use Rattle.d3d_checks.proofs.effect.change.Goals as goal
 
 pub returns-in-SetShader : goal.returns-in-SetShader
-returns-in-SetShader c =
-    let o = c.args.objects.now in
-    let zero = only_none o.buffers o.views o.queries o.bindings c.in-SetShader.id (subst (λ (call : Call). Accepted (objects_of o) (call_view call)) c.in-SetShader.is c.requires.accepted) in
-    rw (c.in-SetShader.is, zero) (c.set_no_shader.ensures c.args.n)
+returns-in-SetShader c = rw c.in-SetShader.is (c.set_shader.ensures c.args.n)
 
 pub returns-in-SetConstant : goal.returns-in-SetConstant
 returns-in-SetConstant c = rw c.in-SetConstant.is (c.set_constant.ensures c.args.n)
@@ -32,7 +23,7 @@ pub returns-in_default : goal.returns-in_default
 returns-in_default c =
     let o = c.args.objects.now in
     let d = c.in_default in
-    no_effect o.buffers o.views o.queries o.bindings c.args.n c.args.call.now
+    no_effect o.buffers o.views o.shaders o.queries o.bindings c.args.n c.args.call.now
     (record {
       destroy = d.not-Destroy;
       shader = d.not-SetShader;

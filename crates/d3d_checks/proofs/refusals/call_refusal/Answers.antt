@@ -1,4 +1,7 @@
-use Rattle.std.proofs.Common.{refl, ◌∙◌}
+use Rattle.std.proofs.Common.{refl, ap, ◌∙◌}
+use Rattle.call_log.specs.View.{call_view}
+use Rattle.call_log.specs.declared.call.Call.{Call}
+use Rattle.d3d_checks.specs.Created.{spells_shader}
 use Rattle.call_log.specs.Call as calls
 use Rattle.d3d_state.specs.Meaning.{objects_of}
 use Rattle.d3d_checks.proofs.Passes.{unended_verdict}
@@ -21,3 +24,9 @@ returns-in-Buffer c = λ past tells.
     let e = rw c.shape_from-shape.ensures at c.buffer_refusal.ensures in
     rw w.is (e ∙ sym (whole_order o w.id w.size w.usage w.bind w.misc w.stride w.bytes.now)
     ∙ unended_verdict o past (calls.Buffer w.id w.size w.usage w.bind w.misc w.stride w.bytes.now) refl refl)
+
+pub returns-in-CreateShader : goal.returns-in-CreateShader
+returns-in-CreateShader c = λ past tells.
+    let w = c.in-CreateShader in
+    rw w.is (c.creation_refusal.ensures past w.words.now (c.requires.spells ∙ ap (λ (call : Call). spells_shader (call_view call)) w.is)
+    ∙ unended_verdict (objects_of c.args.objects.now) past (calls.CreateShader w.id w.words.now) refl refl)

@@ -8,6 +8,9 @@ use Rattle.d3d_model.proofs.Maps.{get-empty}
 use Rattle.d3d_checks.proofs.Unasked.{unasked}
 use Rattle.d3d_checks.proofs.refusals.work_refusal.Goals as goal
 
+pub returns-in-Dispatch : goal.returns-in-Dispatch
+returns-in-Dispatch c = λ past tells. rw c.in-Dispatch.is (c.dispatch_refusal.ensures past ∙ unended_verdict (objects_of c.args.objects.now) past (calls.Dispatch c.in-Dispatch.x c.in-Dispatch.y c.in-Dispatch.z) refl refl)
+
 pub returns-in-DispatchIndirect : goal.returns-in-DispatchIndirect
 returns-in-DispatchIndirect c = λ past tells. rw c.in-DispatchIndirect.is (c.indirect_refusal.ensures past ∙ unended_verdict (objects_of c.args.objects.now) past (calls.DispatchIndirect c.in-DispatchIndirect.res c.in-DispatchIndirect.offset) refl refl)
 
