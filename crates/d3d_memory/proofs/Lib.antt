@@ -2,5 +2,9 @@ pub mod Puts
 pub mod Kept
 pub mod Clearing
 pub mod Parts
-pub mod Idle
+pub mod Programs
 pub mod Played
+pub mod Shows
+pub mod Bounded
+pub mod Stores
+pub mod Short

@@ -1,5 +1,5 @@
 -- What a call does once no predicate skips it.
-use Rattle.std.specs.Prelude.{[], ◌∷◌}
+use Rattle.std.specs.Prelude.{[], ◌∷◌, Bool, true, false}
 use Rattle.call_log.specs.Call as calls
 use Rattle.call_log.specs.Call.{Call}
 use Rattle.d3d_model.specs.D3dState.{Objects, Memory, bindings_of, bound_view, bytes_of}
@@ -14,3 +14,10 @@ commanded o m (calls.Copy target source) = write m target 0 (bytes_of m source)
 commanded o m (calls.Update res offset bytes) = write m res offset bytes
 commanded o m (calls.ClearUav view v0 v1 v2 v3) = cleared m (bound_view o view) (v0 ∷ v1 ∷ v2 ∷ v3 ∷ [])
 commanded o m _ = m
+
+-- a call of the device that changes the memory
+abbrev pub is_made : Call → Bool
+is_made (calls.Buffer id size usage bind misc stride bytes) = true
+is_made (calls.Query id sort) = true
+is_made (calls.Destroy class id) = true
+is_made _ = false

@@ -1,5 +1,5 @@
 -- The bytes of the live buffers, by their ids.
-use Rattle.std.specs.Prelude.{ℕ, ◌+◌, List, [], length, Option, None, Some}
+use Rattle.std.specs.Prelude.{ℕ, ◌+◌, ◌≤◌, List, [], length, Option, None, Some}
 use Rattle.std.specs.Coded.{Coded, coded_ℕ, coded_list}
 use Rattle.d3d_model.specs.IdMap as ids
 use Rattle.d3d_model.specs.IdMap.{IdMap}
@@ -15,6 +15,10 @@ contents_code = ids.code (coded_list coded_ℕ)
 -- the bytes of a buffer, none where it isn't live
 abbrev pub bytes_at : Contents → ℕ → List ℕ
 bytes_at m id = bytes_if (ids.get m id)
+
+-- no buffer has more than 16,777,216 bytes
+abbrev pub AreShort : Contents → Type 0
+AreShort m = (id : ℕ) → length (bytes_at m id) ≤ 16777216
 
 abbrev pub changed_if : Option (List ℕ) → (List ℕ → List ℕ) → Contents → ℕ → Contents
 changed_if None f m id = m

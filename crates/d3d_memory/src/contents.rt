@@ -1,8 +1,10 @@
-ghost use Rattle.std.specs.Prelude.{◌≡◌, ◌*◌, [], IfOk, OnOk, OnErr};
+ghost use Rattle.std.specs.Prelude.{◌≡◌, ◌*◌, [], nat_le, true, vec_len, IfOk, OnOk, OnErr};
+ghost use Rattle.std.specs.BTreeMap.{values};
+ghost use Rattle.std.specs.List.{list_all};
 ghost use Rattle.d3d_model.specs.IdMap as ids;
 ghost use Rattle.d3d_model.specs.Memory.{pattern};
 ghost use Rattle.d3d_model.specs.Regions.{filled};
-ghost use Rattle.d3d_memory.specs.Contents.{bytes_at, changed, copied, write, zeroed};
+ghost use Rattle.d3d_memory.specs.Contents.{AreShort, bytes_at, changed, copied, write, zeroed};
 
 use crate::clear::clear;
 use crate::regions::{put, put_own, within, zero};
@@ -11,6 +13,9 @@ use std::alloc::{AllocError, Global};
 use std::collections::BTreeMap;
 use std::marker::Model;
 use std::mem;
+
+/// The most bytes that a buffer of an accepted log has.
+const LONGEST: usize = 16_777_216;
 
 /// A place in a buffer.
 #[derive(Clone, Copy)]
@@ -53,6 +58,13 @@ impl Contents {
             Some(bytes) => bytes.as_slice(),
             None => &[],
         }
+    }
+
+    /// Whether no buffer has more than 16,777,216 bytes.
+    pub(crate) fn are_short(&self) -> bool
+        ensures { result ≡ true → AreShort self.now }
+    {
+        all_short(&self.buffers)
     }
 
     /// A new buffer: these bytes, and zeros up to its size.
@@ -154,6 +166,12 @@ impl Contents {
     {
         self.buffers.remove(&id);
     }
+}
+
+fn all_short(buffers: &BTreeMap<u32, Vec<u8>>) -> bool
+    ensures { result ≡ list_all (λ v. nat_le (vec_len v) 16777216) (values buffers.now) }
+{
+    buffers.values().all(|bytes| bytes.len() <= LONGEST)
 }
 
 // So many bytes, of which the first are these where they fit, and the rest 0.

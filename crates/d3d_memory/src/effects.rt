@@ -1,11 +1,12 @@
 ghost use Rattle.std.specs.Prelude.{◌≡◌, ℕ, OnOk, OnErr};
 ghost use Rattle.call_log.specs.View.{call_view};
-ghost use Rattle.d3d_model.specs.D3dState.{bindings_of};
-ghost use Rattle.d3d_model.specs.Memory.{dispatched, made, memory_after, run};
+ghost use Rattle.d3d_model.specs.Memory.{made, memory_after, run};
 ghost use Rattle.d3d_state.specs.Meaning.{objects_of};
-ghost use Rattle.d3d_memory.specs.Commands.{commanded};
+ghost use Rattle.d3d_memory.specs.Commands.{commanded, is_made};
+ghost use Rattle.d3d_memory.specs.Limits.{InLimits};
 
 use crate::Memory;
+use crate::dispatch::dispatch;
 use call_log::Call;
 use d3d_state::Objects;
 use std::alloc::AllocError;
@@ -36,22 +37,17 @@ fn make(memory: &mut Memory, call: &Call<'_>) -> Result<(), AllocError>
     }
 }
 
-/// A dispatch of the shader that is set, of so many groups. No shader is live yet, so none is set, and no invocation runs.
-fn dispatch(memory: &mut Memory, _objects: &Objects, _groups: [u32; 3])
-    ensures { let o = objects_of _objects.now in memory.new ≡ dispatched o (bindings_of o 0) _groups memory.old }
-{
-    let _ = memory;
-}
-
 /// What a call does, of the kinds that a predicate may skip, where it isn't skipped.
-fn command(memory: &mut Memory, objects: &Objects, call: &Call<'_>)
-    ensures { memory.new ≡ commanded (objects_of objects.now) memory.old (call_view call.now) }
+fn command(memory: &mut Memory, objects: &Objects, call: &Call<'_>) -> Result<(), AllocError>
+    requires { InLimits memory.old }
+    ensures ok { OnOk result (memory.new ≡ commanded (objects_of objects.now) memory.old (call_view call.now)) }
+    ensures err { OnErr result (memory.new ≡ memory.old) }
 {
     match call {
-        Call::Dispatch { x, y, z } => dispatch(memory, objects, [*x, *y, *z]),
+        Call::Dispatch { x, y, z } => return dispatch(memory, objects, [*x, *y, *z]),
         Call::DispatchIndirect { res, offset } => {
             let groups = memory.counts_at(*res, *offset);
-            dispatch(memory, objects, groups);
+            return dispatch(memory, objects, groups);
         }
         Call::CopyRegion {
             target,
@@ -71,10 +67,12 @@ fn command(memory: &mut Memory, objects: &Objects, call: &Call<'_>)
         } => memory.clear(objects.bound_view(*view), &[*v0, *v1, *v2, *v3]),
         _ => (),
     }
+    Ok(())
 }
 
 /// What a call that may stand in a command list does, played on the immediate context.
 fn run(memory: &mut Memory, objects: &Objects, call: &Call<'_>) -> Result<(), AllocError>
+    requires { InLimits memory.old }
     ensures ok { OnOk result (memory.new ≡ run (objects_of objects.now) memory.old (call_view call.now)) }
     ensures err { OnErr result (memory.new ≡ memory.old) }
 {
@@ -95,26 +93,40 @@ fn run(memory: &mut Memory, objects: &Objects, call: &Call<'_>) -> Result<(), Al
             Ok(())
         }
         _ => {
-            if !memory.is_skipped(objects.bindings().predicate()) {
-                command(memory, objects, call);
+            if memory.is_skipped(objects.bindings().predicate()) {
+                return Ok(());
             }
-            Ok(())
+            command(memory, objects, call)
         }
     }
 }
 
-/// What an accepted call on a context does to the memory, with the objects that it meets.
+/// Whether a call of the device changes the memory.
+fn is_made(call: &Call<'_>) -> bool
+    ensures { result ≡ is_made (call_view call.now) }
+{
+    matches!(
+        call,
+        Call::Buffer { .. } | Call::Query { .. } | Call::Destroy { .. }
+    )
+}
+
+/// What an accepted call on a context does to the memory, with the objects that it meets. Want of memory changes nothing.
 pub fn accept(
     memory: &mut Memory,
     objects: &Objects,
     context: u16,
     call: &Call<'_>,
 ) -> Result<(), AllocError>
-    ensures { (n : ℕ) → OnOk result (memory.new ≡ memory_after n (objects_of objects.now) memory.old context (call_view call.now)) }
+    requires limit { InLimits memory.old }
+    ensures ok { (n : ℕ) → OnOk result (memory.new ≡ memory_after n (objects_of objects.now) memory.old context (call_view call.now)) }
+    ensures err { OnErr result (memory.new ≡ memory.old) }
 {
-    make(memory, call)?;
-    if context == 0 {
-        run(memory, objects, call)?;
+    if is_made(call) {
+        make(memory, call)
+    } else if context == 0 {
+        run(memory, objects, call)
+    } else {
+        Ok(())
     }
-    Ok(())
 }

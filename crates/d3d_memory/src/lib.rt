@@ -3,14 +3,19 @@
 #![tactic(auto)]
 
 mod answers;
+mod bind;
 mod clear;
 mod contents;
+mod dispatch;
 mod effects;
+mod laws;
 mod memory;
 mod regions;
+mod shown;
 
 pub use answers::answer;
 pub use effects::accept;
+pub use laws::logs_stay_in_limits;
 pub use memory::Memory;
 
 #[cfg(test)]

@@ -1,9 +1,10 @@
-ghost use Rattle.std.specs.Prelude.{◌≡◌, ◌+◌, IfOk, OnOk, OnErr};
+ghost use Rattle.std.specs.Prelude.{◌≡◌, ◌+◌, ◌<◌, ◌^◌, true, IfOk, OnOk, OnErr};
 ghost use Rattle.d3d_model.specs.D3dState.{bytes_of, count_of, no_memory};
-ghost use Rattle.d3d_model.specs.Memory.{begun_count, cleared, copied, counts_at, discarded, ended_count, is_skipped, no_counts, write};
+ghost use Rattle.d3d_model.specs.Memory.{begun_count, cleared, copied, counted, counts_at, discarded, ended_count, is_skipped, no_counts, write};
 ghost use Rattle.d3d_model.specs.Regions.{slice};
 ghost use Rattle.d3d_views.specs.Meaning.{meaning};
 ghost use Rattle.d3d_memory.specs.Effects.{created, destroyed};
+ghost use Rattle.d3d_memory.specs.Limits.{InLimits};
 
 use crate::contents::{Contents, Place};
 use crate::regions::{within, word_at};
@@ -11,6 +12,9 @@ use d3d_views::{BoundView, Predicate};
 use std::alloc::{AllocError, Global};
 use std::collections::BTreeMap;
 use std::marker::Model;
+
+/// The most invocations that may have run before a dispatch.
+const MOST_RAN: u64 = 1 << 63;
 
 /// The bytes of each live buffer, and the counts of queries. A clause sees the model's memory.
 #[derive(Drop)]
@@ -52,6 +56,13 @@ impl Memory {
         }
     }
 
+    /// Whether the memory is within the limits that a dispatch asks for: each state of a log is.
+    pub fn is_in_limits(&self) -> bool
+        ensures { result ≡ true → InLimits self.now }
+    {
+        self.ran <= MOST_RAN && self.contents.are_short()
+    }
+
     /// The bytes of a buffer, none where it isn't live.
     pub fn bytes(&self, id: u32) -> &[u8]
         ensures { result.now ≡ bytes_of self.now id }
@@ -72,6 +83,26 @@ impl Memory {
         ensures { self.new ≡ destroyed self.old id }
     {
         self.contents.remove(id);
+    }
+
+    /// Where it takes its memory from.
+    pub(crate) fn alloc(&self) -> Global {
+        self.alloc
+    }
+
+    /// These bytes in a live buffer, from byte `from` on, where they fit.
+    pub(crate) fn write_at(&mut self, res: u32, from: u64, bytes: &[u8])
+        ensures { self.new ≡ write self.old res from bytes.now }
+    {
+        self.contents.write(res, from as usize, bytes);
+    }
+
+    /// So many invocations more ran.
+    pub(crate) fn count_ran(&mut self, count: u64)
+        requires { self.old.ran + count < 2 ^ 64 }
+        ensures { self.new ≡ counted self.old count }
+    {
+        self.ran += count;
     }
 
     /// These bytes in a live buffer, from byte `offset` on, where they fit.
