@@ -24,7 +24,8 @@ use Rattle.vk_types.specs.Before.{access_at, names_stages_of, barrier_orders, op
 use Rattle.vk_types.specs.Covered.{writes_named, allowed_by, makes_visible, op_barrier, commands_visible, each_pair, visible_at, visible_if, is_hazard, uncovered}
 use Rattle.vk_types.specs.BarrierCauses.{writes_at, source_access, source_mask, all_device, lesser, least_conflict, caused, barrier_before, since_barrier, least_writer, host_barrier, maybe_barrier, barriers_from, HasBarrierCauses}
 use Rattle.vk_types.proofs.Order.{IsNamed, named_last, named_more, source_names, device_names, no_host_stage}
-use Rattle.vk_types.proofs.Scan.{scan_hit}
+use Rattle.vk_types.specs.Serving.{Serves, ServesOp}
+use Rattle.vk_types.proofs.Serving.{HasServing, mid_orders, all_visible}
 use Rattle.std.proofs.lemmas.List.Folds.{list_any-append}
 
 -- The commands since the last barrier ----------------------------------------------------------------------------------
@@ -78,11 +79,6 @@ known_more xs c d k = record {
 
 -- A barrier that covers a command ---------------------------------------------------------------------------------------
 
-pub record Good (c : Command) (b : Barrier) : Type 0 where
-  pub source : names_stages_of b.source c ≡ true
-  pub shows : (s : Stage) → writes_at s c ≡ true → writes_named (access_at b.source s) ≡ true
-  pub dest : b.dest ≡ all_device read_write_access
-
 writes_has : (c : Command) (s : Stage) → writes_at s c ≡ true → has_stage c s ≡ true
 writes_has c s h = ap (λ v. v || (is_dispatch c.work && same_stage stage.Compute s)) (some_at (touches c) h)
   where
@@ -105,32 +101,18 @@ good_source c cs k stage.Compute h = shown_by c cs k stage.Compute h
 good_source c cs k stage.Transfer h = shown_by c cs k stage.Transfer h
 good_source c cs k stage.Host h = absurd (both_ways (has_stage c stage.Host) (no_host_stage c) (writes_has c stage.Host h))
 
-good_of : (c : Command) (recent : List Command) → Known c recent → (e : Command) (o : Option ℕ) (b : Barrier) → caused recent e o ≡ Some b → Good c b
+good_of : (c : Command) (recent : List Command) → Known c recent → (e : Command) (o : Option ℕ) (b : Barrier) → caused recent e o ≡ Some b → Serves c b
 good_of c recent k e None b h = absurd (cc h)
 good_of c recent k e (Some first) b h =
     let cause : Barrier = record { source = source_mask recent; dest = all_device read_write_access; first = first; second = Some e.number } in
     let same : cause ≡ b = cc h in
-    subst (Good c) same (record { source = source_names c recent k.named; shows = good_source c recent k; dest = refl })
-
-abbrev GoodOp : Command → VkOp → Type 0
-GoodOp c (op.HostWrite r call) = ⊥
-GoodOp c (op.Pipeline shader) = ⊥
-GoodOp c (op.Barrier barrier) = Good c barrier
-GoodOp c (op.Command command) = ⊥
-GoodOp c (op.Submit k) = ⊥
-GoodOp c (op.Fence k) = ⊥
-GoodOp c (op.HostRead r call) = ⊥
-
--- one of the operations is a barrier that covers the command
-abbrev HasGood : Command → List VkOp → Type 0
-HasGood c [] = ⊥
-HasGood c (o ∷ os) = GoodOp c o ⊎ HasGood c os
+    subst (Serves c) same (record { source = source_names c recent k.named; shows = good_source c recent k; dest = refl })
 
 -- The listing ------------------------------------------------------------------------------------------------------------
 
 -- an operation that is not the command stands first, so it is passed over
 skip : (c : Command) (o : VkOp) (rest pre : List VkOp) (p : VkOp) (post : List VkOp) → (o ≡ p → ⊥) → o ∷ rest ≡ pre ++ p ∷ post
-    → ((front : List VkOp) → rest ≡ front ++ p ∷ post → HasGood c front) → HasGood c pre
+    → ((front : List VkOp) → rest ≡ front ++ p ∷ post → HasServing c front) → HasServing c pre
 skip c o rest [] p post n e k = absurd (n (cc e))
 skip c o rest (q ∷ pre) p post n e k = inr (k pre (cc e))
 
@@ -141,26 +123,26 @@ none_conflict recent e h = go (least_conflict recent e) h
     go None k = refl
     go (Some n) k = absurd (cc k)
 
-good_before : (c : Command) (recent : List Command) → Known c recent → (e : Command) (b : Barrier) → barrier_before recent e ≡ Some b → Good c b
+good_before : (c : Command) (recent : List Command) → Known c recent → (e : Command) (b : Barrier) → barrier_before recent e ≡ Some b → Serves c b
 good_before c recent k e b h = good_of c recent k e (least_conflict recent e) b h
 
 module _ (c x d : Command) (recent : List Command) (post : List VkOp) (rest : List Command → List VkOp) where
-  front_step : Known c recent → conflict c d ≡ true → ((xs : List Command) → Known c xs → (pre : List VkOp) → rest xs ≡ pre ++ op.Command d ∷ post → HasGood c pre)
-      → (o : Option Barrier) → barrier_before recent x ≡ o → (pre : List VkOp) → maybe_barrier o ++ op.Command x ∷ rest (since_barrier recent x o) ≡ pre ++ op.Command d ∷ post → HasGood c pre
+  front_step : Known c recent → conflict c d ≡ true → ((xs : List Command) → Known c xs → (pre : List VkOp) → rest xs ≡ pre ++ op.Command d ∷ post → HasServing c pre)
+      → (o : Option Barrier) → barrier_before recent x ≡ o → (pre : List VkOp) → maybe_barrier o ++ op.Command x ∷ rest (since_barrier recent x o) ≡ pre ++ op.Command d ∷ post → HasServing c pre
   front_step k h rec None is [] f = let same : x ≡ d = cc f in absurd (both_ways (is_some (least_conflict recent x)) (none_conflict recent x is) (k.seen x (ap (conflict c) same ∙ h)))
   front_step k h rec None is (p ∷ pre) f = inr (rec (recent ++ x ∷ []) (known_more recent c x k) pre (cc f))
   front_step k h rec (Some b) is [] f = absurd (cc f)
-  front_step k h rec (Some b) is (p ∷ pre) f = let first : op.Barrier b ≡ p = cc f in inl (subst (GoodOp c) first (good_before c recent k x b is))
+  front_step k h rec (Some b) is (p ∷ pre) f = let first : op.Barrier b ≡ p = cc f in inl (subst (ServesOp c) first (good_before c recent k x b is))
 
-front_submit : (c : Command) (j : ℕ) (rest : List VkOp) (d : Command) (post : List VkOp) → ((front : List VkOp) → rest ≡ front ++ op.Command d ∷ post → HasGood c front)
-    → (o : Option ℕ) (pre : List VkOp) → host_barrier o ++ op.Submit j ∷ rest ≡ pre ++ op.Command d ∷ post → HasGood c pre
+front_submit : (c : Command) (j : ℕ) (rest : List VkOp) (d : Command) (post : List VkOp) → ((front : List VkOp) → rest ≡ front ++ op.Command d ∷ post → HasServing c front)
+    → (o : Option ℕ) (pre : List VkOp) → host_barrier o ++ op.Submit j ∷ rest ≡ pre ++ op.Command d ∷ post → HasServing c pre
 front_submit c j rest d post rec None pre f = skip c (op.Submit j) rest pre (op.Command d) post (λ x. cc x) f rec
 front_submit c j rest d post rec (Some n) [] f = absurd (cc f)
 front_submit c j rest d post rec (Some n) (p ∷ pre) f = inr (skip c (op.Submit j) rest pre (op.Command d) post (λ x. cc x) (cc f) rec)
 
 -- a barrier that covers a recent command stands before each later one that conflicts with it
 front_good : (staging : ℕ → Bool) (c : Command) (bare : List VkOp) (recent batch : List Command) → Known c recent → (pre : List VkOp) (d : Command) (post : List VkOp)
-    → barriers_from staging recent batch bare ≡ pre ++ op.Command d ∷ post → conflict c d ≡ true → HasGood c pre
+    → barriers_from staging recent batch bare ≡ pre ++ op.Command d ∷ post → conflict c d ≡ true → HasServing c pre
 front_good staging c [] recent batch k [] d post e h = absurd (cc e)
 front_good staging c [] recent batch k (p ∷ pre) d post e h = absurd (cc e)
 front_good staging c (op.HostWrite r call ∷ ops) recent batch k pre d post e h =
@@ -180,30 +162,30 @@ front_good staging c (op.HostRead r call ∷ ops) recent batch k pre d post e h 
 
 -- between two commands of the listing that conflict stands a barrier that covers the first
 pass : (c : Command) (mid : List VkOp) (o : VkOp) (rest pre : List VkOp) (p : VkOp) (post : List VkOp) → (o ≡ p → ⊥) → o ∷ rest ≡ pre ++ p ∷ post
-    → ((front : List VkOp) → rest ≡ front ++ p ∷ post → HasGood c mid) → HasGood c mid
+    → ((front : List VkOp) → rest ≡ front ++ p ∷ post → HasServing c mid) → HasServing c mid
 pass c mid o rest [] p post n e k = absurd (n (cc e))
 pass c mid o rest (q ∷ pre) p post n e k = k pre (cc e)
 
 module _ (c x d : Command) (recent : List Command) (mid post : List VkOp) (rest : List Command → List VkOp) where
   abbrev Begun : Type 0
-  Begun = (xs : List Command) → Known x xs → op.Command x ≡ op.Command c → rest xs ≡ mid ++ op.Command d ∷ post → HasGood c mid
+  Begun = (xs : List Command) → Known x xs → op.Command x ≡ op.Command c → rest xs ≡ mid ++ op.Command d ∷ post → HasServing c mid
 
-  pair_step : Begun → ((xs : List Command) (pre : List VkOp) → rest xs ≡ pre ++ op.Command c ∷ (mid ++ op.Command d ∷ post) → HasGood c mid)
-      → (o : Option Barrier) (pre : List VkOp) → maybe_barrier o ++ op.Command x ∷ rest (since_barrier recent x o) ≡ pre ++ op.Command c ∷ (mid ++ op.Command d ∷ post) → HasGood c mid
+  pair_step : Begun → ((xs : List Command) (pre : List VkOp) → rest xs ≡ pre ++ op.Command c ∷ (mid ++ op.Command d ∷ post) → HasServing c mid)
+      → (o : Option Barrier) (pre : List VkOp) → maybe_barrier o ++ op.Command x ∷ rest (since_barrier recent x o) ≡ pre ++ op.Command c ∷ (mid ++ op.Command d ∷ post) → HasServing c mid
   pair_step first rec None [] f = first (recent ++ x ∷ []) (known_last recent x) (cc f) (cc f)
   pair_step first rec None (p ∷ pre) f = rec (recent ++ x ∷ []) pre (cc f)
   pair_step first rec (Some b) [] f = absurd (cc f)
   pair_step first rec (Some b) (p ∷ []) f = first (x ∷ []) (known_last [] x) (cc f) (cc f)
   pair_step first rec (Some b) (p ∷ (q ∷ pre)) f = rec (x ∷ []) pre (cc f)
 
-pair_submit : (c : Command) (mid : List VkOp) (j : ℕ) (rest tail : List VkOp) → ((front : List VkOp) → rest ≡ front ++ op.Command c ∷ tail → HasGood c mid)
-    → (o : Option ℕ) (pre : List VkOp) → host_barrier o ++ op.Submit j ∷ rest ≡ pre ++ op.Command c ∷ tail → HasGood c mid
+pair_submit : (c : Command) (mid : List VkOp) (j : ℕ) (rest tail : List VkOp) → ((front : List VkOp) → rest ≡ front ++ op.Command c ∷ tail → HasServing c mid)
+    → (o : Option ℕ) (pre : List VkOp) → host_barrier o ++ op.Submit j ∷ rest ≡ pre ++ op.Command c ∷ tail → HasServing c mid
 pair_submit c mid j rest tail rec None pre f = pass c mid (op.Submit j) rest pre (op.Command c) tail (λ x. cc x) f rec
 pair_submit c mid j rest tail rec (Some n) [] f = absurd (cc f)
 pair_submit c mid j rest tail rec (Some n) (p ∷ pre) f = pass c mid (op.Submit j) rest pre (op.Command c) tail (λ x. cc x) (cc f) rec
 
 pair_good : (staging : ℕ → Bool) (bare : List VkOp) (recent batch : List Command) (pre : List VkOp) (c : Command) (mid : List VkOp) (d : Command) (post : List VkOp)
-    → barriers_from staging recent batch bare ≡ pre ++ op.Command c ∷ (mid ++ op.Command d ∷ post) → conflict c d ≡ true → HasGood c mid
+    → barriers_from staging recent batch bare ≡ pre ++ op.Command c ∷ (mid ++ op.Command d ∷ post) → conflict c d ≡ true → HasServing c mid
 pair_good staging [] recent batch [] c mid d post e h = absurd (cc e)
 pair_good staging [] recent batch (p ∷ pre) c mid d post e h = absurd (cc e)
 pair_good staging (op.HostWrite r call ∷ ops) recent batch pre c mid d post e h =
@@ -213,7 +195,7 @@ pair_good staging (op.Pipeline shader ∷ ops) recent batch pre c mid d post e h
 pair_good staging (op.Barrier barrier ∷ ops) recent batch pre c mid d post e h = pair_good staging ops recent batch pre c mid d post e h
 pair_good staging (op.Command x ∷ ops) recent batch pre c mid d post e h =
     pair_step c x d recent mid post (λ xs. barriers_from staging xs (batch ++ x ∷ []) ops)
-    (λ xs k same f. let is : x ≡ c = cc same in subst (λ z. HasGood z mid) is (front_good staging x ops xs (batch ++ x ∷ []) k mid d post f (ap (λ z. conflict z d) is ∙ h)))
+    (λ xs k same f. let is : x ≡ c = cc same in subst (λ z. HasServing z mid) is (front_good staging x ops xs (batch ++ x ∷ []) k mid d post f (ap (λ z. conflict z d) is ∙ h)))
     (λ xs front f. pair_good staging ops xs (batch ++ x ∷ []) front c mid d post f h) (barrier_before recent x) pre e
 pair_good staging (op.Submit j ∷ ops) recent batch pre c mid d post e h =
     pair_submit c mid j (barriers_from staging recent [] ops) (mid ++ op.Command d ∷ post) (λ front f. pair_good staging ops recent [] front c mid d post f h) (least_writer staging batch) pre e
@@ -221,110 +203,6 @@ pair_good staging (op.Fence j ∷ ops) recent batch pre c mid d post e h =
     pass c mid (op.Fence j) (barriers_from staging recent batch ops) pre (op.Command c) (mid ++ op.Command d ∷ post) (λ x. cc x) e (λ front f. pair_good staging ops recent batch front c mid d post f h)
 pair_good staging (op.HostRead r call ∷ ops) recent batch pre c mid d post e h =
     pass c mid (op.HostRead r call) (barriers_from staging recent batch ops) pre (op.Command c) (mid ++ op.Command d ∷ post) (λ x. cc x) e (λ front f. pair_good staging ops recent batch front c mid d post f h)
-
--- What such a barrier gives -----------------------------------------------------------------------------------------------
-
-good_orders : (c d : Command) (b : Barrier) → Good c b → barrier_orders c d b ≡ true
-good_orders c d b g = ap (λ v. v && names_stages_of b.dest d) g.source ∙ ap (λ m. names_stages_of m d) g.dest ∙ device_names d
-
-mid_orders : (c d : Command) (mid : List VkOp) → HasGood c mid → list_any (op_orders c d) mid ≡ true
-mid_orders c d [] g = absurd g
-mid_orders c d (o ∷ os) (inl g) = here o g
-  where
-    here : (o : VkOp) → GoodOp c o → list_any (op_orders c d) (o ∷ os) ≡ true
-    here (op.HostWrite r call) g = absurd g
-    here (op.Pipeline shader) g = absurd g
-    here (op.Barrier b) g = ap (λ v. v || list_any (op_orders c d) os) (good_orders c d b g)
-    here (op.Command command) g = absurd g
-    here (op.Submit k) g = absurd g
-    here (op.Fence k) g = absurd g
-    here (op.HostRead r call) g = absurd g
-mid_orders c d (o ∷ os) (inr g) = ap (λ v. op_orders c d o || v) (mid_orders c d os g) ∙ or_true (op_orders c d o)
-
-abbrev shows_both : Command → Command → Touch → Touch → Barrier → Bool
-shows_both c d t u b = barrier_orders c d b && makes_visible t u b
-
-mid_shows : (c d : Command) (t u : Touch) → writes_at t.stage c ≡ true → allowed_by (access_at (all_device read_write_access) u.stage) u.access ≡ true
-    → (mid : List VkOp) → HasGood c mid → list_any (op_barrier (shows_both c d t u)) mid ≡ true
-mid_shows c d t u wt al [] g = absurd g
-mid_shows c d t u wt al (o ∷ os) (inl g) = here o g
-  where
-    here : (o : VkOp) → GoodOp c o → list_any (op_barrier (shows_both c d t u)) (o ∷ os) ≡ true
-    here (op.HostWrite r call) g = absurd g
-    here (op.Pipeline shader) g = absurd g
-    here (op.Barrier b) g =
-        ap (λ v. (v && makes_visible t u b) || list_any (op_barrier (shows_both c d t u)) os) (good_orders c d b g)
-        ∙ (ap (λ v. (v && allowed_by (access_at b.dest u.stage) u.access) || list_any (op_barrier (shows_both c d t u)) os) (g.shows t.stage wt)
-        ∙ ap (λ v. v || list_any (op_barrier (shows_both c d t u)) os) (ap (λ m. allowed_by (access_at m u.stage) u.access) g.dest ∙ al))
-    here (op.Command command) g = absurd g
-    here (op.Submit k) g = absurd g
-    here (op.Fence k) g = absurd g
-    here (op.HostRead r call) g = absurd g
-mid_shows c d t u wt al (o ∷ os) (inr g) = ap (λ v. op_barrier (shows_both c d t u) o || v) (mid_shows c d t u wt al os g) ∙ or_true (op_barrier (shows_both c d t u) o)
-
--- each touch that there is passes
-pass_in : (p : Touch → Bool) (ts : List Touch) → ((t : Touch) (i : ℕ) → slice_get ts i ≡ Some t → p t ≡ true) → all_pass p ts ≡ true
-pass_in p [] h = refl
-pass_in p (t ∷ ts) h = ap (λ v. v && all_pass p ts) (h t zero refl) ∙ pass_in p ts (λ u i e. h u (suc i) e)
-
-abbrev Shown : Touch → Type 0
-Shown u = allowed_by (access_at (all_device read_write_access) u.stage) u.access ≡ true
-
-shown_slots : (ss : List SlotRange) (u : Touch) (i : ℕ) → slice_get (map slot_touch ss) i ≡ Some u → Shown u
-shown_slots [] u i e = absurd (cc e)
-shown_slots (s ∷ ss) u zero e = let is : slot_touch s ≡ u = cc e in subst Shown is (one s.slot)
-  where
-    one : (n : SlotName) → let t : SlotRange = record { slot = n; range = s.range } in Shown (slot_touch t)
-    one (slot.Constant i) = refl
-    one (slot.Srv i) = refl
-    one (slot.Uav i) = refl
-shown_slots (s ∷ ss) u (suc i) e = shown_slots ss u i e
-
-shown_cond : (k : Option Cond) (u : Touch) (i : ℕ) → slice_get (cond_touches k) i ≡ Some u → Shown u
-shown_cond None u i e = absurd (cc e)
-shown_cond (Some k) u zero e = let is : touch stage.Indirect read_access k.at ≡ u = cc e in subst Shown is refl
-shown_cond (Some k) u (suc i) e = absurd (cc e)
-
-shown_touch : (w : Work) (k : Option Cond) (u : Touch) (i : ℕ) → slice_get (work_touches w ++ cond_touches k) i ≡ Some u → Shown u
-shown_touch (work.Copy source target) k u zero e = let is : touch stage.Transfer read_access source ≡ u = cc e in subst Shown is refl
-shown_touch (work.Copy source target) k u (suc zero) e = let is : touch stage.Transfer write_access target ≡ u = cc e in subst Shown is refl
-shown_touch (work.Copy source target) k u (suc (suc i)) e = shown_cond k u i e
-shown_touch (work.Fill target word) k u zero e = let is : touch stage.Transfer write_access target ≡ u = cc e in subst Shown is refl
-shown_touch (work.Fill target word) k u (suc i) e = shown_cond k u i e
-shown_touch (work.Clear target words unit) k u zero e = let is : touch stage.Compute write_access target ≡ u = cc e in subst Shown is refl
-shown_touch (work.Clear target words unit) k u (suc i) e = shown_cond k u i e
-shown_touch (work.Dispatch shader counts slots) k u i e = by_groups counts i e
-  where
-    by_slots : (ss : List SlotRange) (i : ℕ) → slice_get (map slot_touch ss ++ cond_touches k) i ≡ Some u → Shown u
-    by_slots [] i f = shown_cond k u i f
-    by_slots (s ∷ ss) zero f = shown_slots (s ∷ []) u zero f
-    by_slots (s ∷ ss) (suc i) f = by_slots ss i f
-
-    by_groups : (g : Groups) (i : ℕ) → slice_get ((groups_touches g ++ map slot_touch slots) ++ cond_touches k) i ≡ Some u → Shown u
-    by_groups (groups.Direct x y z) i f = by_slots slots i f
-    by_groups (groups.Indirect at) zero f = let is : touch stage.Indirect read_access at ≡ u = cc f in subst Shown is refl
-    by_groups (groups.Indirect at) (suc i) f = by_slots slots i f
-
-all_visible : (c d : Command) (mid : List VkOp) → HasGood c mid → each_pair (commands_visible mid c d) (touches c) (touches d) ≡ true
-all_visible c d mid g =
-    pass_in (λ t. all_pass (commands_visible mid c d t) (touches d)) (touches c) (λ t i e.
-    pass_in (commands_visible mid c d t) (touches d) (λ u j f. one t i e u j f))
-  where
-    one : (t : Touch) (i : ℕ) → slice_get (touches c) i ≡ Some t → (u : Touch) (j : ℕ) → slice_get (touches d) j ≡ Some u → commands_visible mid c d t u ≡ true
-    one t i e u j f =
-        elim (cases_Bool (has_write t.access)) [
-          | inr n ↦ ap (λ v. not (v && touches_conflict t u) || list_any (op_barrier (shows_both c d t u)) mid) n
-          | inl w ↦
-              let there : writes_at t.stage c ≡ true = scan_hit (λ x. same_stage x.stage t.stage && has_write x.access) (touches c) i t e (ap (λ v. v && has_write t.access) (stage_self t.stage) ∙ w) in
-              ap (λ v. not (has_write t.access && touches_conflict t u) || v) (mid_shows c d t u there (shown_touch d.work d.cond u j f) mid g)
-              ∙ or_true (not (has_write t.access && touches_conflict t u))
-        ]
-      where
-        stage_self : (s : Stage) → same_stage s s ≡ true
-        stage_self stage.Indirect = refl
-        stage_self stage.Compute = refl
-        stage_self stage.Transfer = refl
-        stage_self stage.Host = refl
 
 -- Two commands of the listing ---------------------------------------------------------------------------------------------
 
@@ -353,7 +231,7 @@ covers_hazard staging ops h x y c d ex ey hz =
     let later : slice_get rest k ≡ Some (op.Command d) = get_later ops (suc x) k y place ∙ ey in
     let whole : ops ≡ take x ops ++ op.Command c ∷ (mid ++ op.Command d ∷ drop (suc k) rest) =
     split_there ops x (op.Command c) ex ∙ ap (λ l. take x ops ++ op.Command c ∷ l) (split_there rest k (op.Command d) later) in
-    let good : HasGood c mid = pair_good staging ops [] [] (take x ops) c mid d (drop (suc k) rest) (sym h ∙ whole) clash in
+    let good : HasServing c mid = pair_good staging ops [] [] (take x ops) c mid d (drop (suc k) rest) (sym h ∙ whole) clash in
     let ordered : before ops x y ≡ true =
     ap (λ b. b && sides_ordered ops x y (side_at ops x) (side_at ops y)) parts.0
     ∙ ap (λ o. sides_ordered ops x y (side_of o) (side_at ops y)) ex

@@ -7,3 +7,4 @@ pub mod Law
 pub mod Order
 pub mod Bridge
 pub mod Scan
+pub mod Serving

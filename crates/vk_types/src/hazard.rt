@@ -1,15 +1,15 @@
 //! Which touches and which commands conflict, and at which stages a command works.
 
-ghost use Rattle.std.specs.Prelude.{◌≡◌};
+ghost use Rattle.std.specs.Prelude.{◌≡◌, ◌++◌, map};
 ghost use Rattle.std.specs.List.{list_any};
 ghost use Rattle.vk_types.specs.Memory.{meets};
 ghost use Rattle.vk_types.specs.Before.{access_at};
 ghost use Rattle.vk_types.specs.BarrierCauses.{all_device};
-ghost use Rattle.vk_types.specs.Hazards.{has_read, has_write, allows, has_stage, same_stage, touches, touches_conflict, is_dispatch, conflict};
+ghost use Rattle.vk_types.specs.Hazards.{has_read, has_write, allows, has_stage, same_stage, touches, work_touches, groups_touches, cond_touches, slot_touch, touches_conflict, is_dispatch, conflict};
 
 use crate::access::{Access, Mask, Stage};
-use crate::command::{Command, Work};
-use crate::touch::Touch;
+use crate::command::{Command, Cond, Groups, SlotRange, Work};
+use crate::touch::{Touch, reads, writes};
 use bitflags::Flags;
 use dx_types::Range;
 
@@ -101,19 +101,61 @@ impl Work {
     }
 }
 
+impl Groups {
+    fn clashes(&self, t: &Touch) -> bool
+        ensures { result ≡ list_any (touches_conflict t.now) (groups_touches self.now) }
+    {
+        match self {
+            Groups::Direct { .. } => false,
+            Groups::Indirect { at } => t.conflicts(&reads(Stage::Indirect, *at)),
+        }
+    }
+}
+
+fn slots_clash(slots: &[SlotRange], t: &Touch) -> bool
+    ensures { result ≡ list_any (λ s. touches_conflict t.now (slot_touch s)) slots.now }
+{
+    slots.iter().any(|s| t.conflicts(&s.touch()))
+}
+
+fn dispatch_clashes(groups: &Groups, slots: &[SlotRange], t: &Touch) -> bool
+    ensures { result ≡ list_any (touches_conflict t.now) (groups_touches groups.now ++ map slot_touch slots.now) }
+{
+    groups.clashes(t) || slots_clash(slots, t)
+}
+
+fn cond_clashes(cond: &Option<Cond>, t: &Touch) -> bool
+    ensures { result ≡ list_any (touches_conflict t.now) (cond_touches cond.now) }
+{
+    match cond {
+        Some(c) => t.conflicts(&reads(Stage::Indirect, c.at)),
+        None => false,
+    }
+}
+
+impl Work {
+    fn clashes(&self, t: &Touch) -> bool
+        ensures { result ≡ list_any (touches_conflict t.now) (work_touches self.now) }
+    {
+        match self {
+            Work::Copy { source, target } => {
+                t.conflicts(&reads(Stage::Transfer, *source))
+                    || t.conflicts(&writes(Stage::Transfer, *target))
+            }
+            Work::Fill { target, .. } => t.conflicts(&writes(Stage::Transfer, *target)),
+            Work::Clear { target, .. } => t.conflicts(&writes(Stage::Compute, *target)),
+            Work::Dispatch { groups, slots, .. } => dispatch_clashes(groups, slots.as_slice(), t),
+        }
+    }
+}
+
 impl Command {
-    /// Whether a touch of the command conflicts with this one.
+    /// Whether a touch of the command conflicts with this one. Checks of listings ask this of each pair of operations, so
+    /// the touches are not made one by one.
     pub fn clashes(&self, t: &Touch) -> bool
         ensures { result ≡ list_any (touches_conflict t.now) (touches self.now) }
     {
-        for i in 0..self.touch_count() {
-            if let Some(u) = self.touch_at(i) {
-                if t.conflicts(&u) {
-                    return true;
-                }
-            }
-        }
-        false
+        self.work.clashes(t) || cond_clashes(&self.cond, t)
     }
 
     /// Whether some touches of the two conflict.

@@ -2,11 +2,14 @@
 #![tactic(auto)]
 
 ghost use Rattle.std.specs.Prelude.{◌≡◌, ℕ, Bool, List};
-ghost use Rattle.vk_types.specs.Effects.{Meaning};
+ghost use Rattle.vk_types.specs.Effects.{Meaning, Act, act_touches, act_effect, effect, invocations};
+ghost use Rattle.vk_types.specs.Locality.{IsLocal, DependsOnReads};
+ghost use Rattle.vk_types.specs.Hazards.{touches};
 ghost use Rattle.vk_types.specs.Lists.{IsReordering};
 ghost use Rattle.vk_types.specs.Listing.{acts};
 ghost use Rattle.vk_types.specs.Covered.{Covered, OrdersHazards, is_hazard};
 ghost use Rattle.vk_types.specs.Allowed.{IsAllowed, Keeps, outcome};
+ghost use Rattle.vk_types.specs.declared.command.Command.{Command};
 ghost use Rattle.vk_types.specs.declared.op.VkOp.{VkOp};
 
 mod access;
@@ -29,6 +32,15 @@ pub use touch::Touch;
 
 #[cfg(test)]
 mod tests;
+
+/// Laws of effects, whatever a shader means by the words of its slots. A command changes only bytes that its touches
+/// write, and what it writes, whether it is skipped, and how many invocations it runs depend only on bytes that its touches
+/// read. The host's writes and reads are local to their ranges in the same way.
+pub fn effects_are_local()
+    ensures commands { (meaning : Meaning) (c : Command) → IsLocal (touches c) (effect meaning c) }
+    ensures counts { (meaning : Meaning) (c : Command) → DependsOnReads (touches c) (invocations meaning c) }
+    ensures acts { (meaning : Meaning) (a : Act) → IsLocal (act_touches a) (act_effect meaning a) }
+{}
 
 /// Laws of orders. An order of a listing's acts that keeps a relation by which each hazard is ordered leaves the memory,
 /// and gives the host the bytes at each of its reads, that the listing's own order does, whatever its shaders mean. In

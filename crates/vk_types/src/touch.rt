@@ -15,7 +15,8 @@ pub struct Touch {
     pub access: Access,
 }
 
-fn reads(stage: Stage, range: Range) -> Touch
+/// A touch that reads.
+pub(crate) fn reads(stage: Stage, range: Range) -> Touch
     ensures { result ≡ touch stage read_access range }
 {
     Touch {
@@ -25,7 +26,8 @@ fn reads(stage: Stage, range: Range) -> Touch
     }
 }
 
-fn writes(stage: Stage, range: Range) -> Touch
+/// A touch that writes.
+pub(crate) fn writes(stage: Stage, range: Range) -> Touch
     ensures { result ≡ touch stage write_access range }
 {
     Touch {
@@ -36,7 +38,8 @@ fn writes(stage: Stage, range: Range) -> Touch
 }
 
 impl SlotRange {
-    fn touch(&self) -> Touch
+    /// How a dispatch touches the slot's range.
+    pub(crate) fn touch(&self) -> Touch
         ensures { result ≡ slot_touch self.now }
     {
         let access = match self.slot {
