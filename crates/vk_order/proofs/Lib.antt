@@ -4,3 +4,5 @@ pub mod Placed
 pub mod Whole
 pub mod Acts
 pub mod Broken
+mod Served
+mod Best

@@ -1,8 +1,8 @@
 -- A pair that is open by what stands between its operations is an uncovered hazard of the listing.
-use Rattle.std.proofs.Common.{◌≡◌, ℕ, suc, ◌+◌, ◌-◌, ◌<◌, ◌≤◌, Bool, true, false, not, ◌&&◌, ◌||◌, ◌==◌, nat_lt, List, [], ◌∷◌, length, take, drop, refl, sym, ap, ◌∙◌, subst, inl, inr, Some, slice_get, add-one, arith}
+use Rattle.std.proofs.Common.{◌≡◌, ℕ, suc, ◌+◌, ◌-◌, ◌<◌, ◌≤◌, Bool, true, false, not, ◌&&◌, ◌||◌, ◌==◌, nat_lt, List, [], ◌∷◌, length, take, drop, refl, sym, ap, ◌∙◌, inl, inr, Some, slice_get, get_or, add-one, arith}
 use Rattle.std.specs.List.{list_any}
 use Rattle.std.proofs.lemmas.Bool.{lt-ltb, cases_lt, le-ltb}
-use Rattle.std.proofs.lemmas.Option.{slice_get_past}
+use Rattle.std.proofs.lemmas.Option.{slice_get_past, slice_get-get_or}
 use Rattle.dx_types.specs.declared.range.Range.{Range}
 use Rattle.vk_types.specs.declared.touch.Touch.{Touch}
 use Rattle.vk_types.specs.declared.command.Command.{Command}
@@ -16,7 +16,7 @@ use Rattle.vk_types.specs.Before.{is_fenced, side, side_of, side_at, sides_order
 use Rattle.vk_types.specs.Covered.{visible, visible_at, visible_if, host_visible, each_pair, uncovered, Covered}
 use Rattle.vk_order.specs.Asks.{is_pair_open, is_command_open}
 
-and_false : (x : Bool) → (x && false) ≡ false
+pub and_false : (x : Bool) → (x && false) ≡ false
 and_false true = refl
 and_false false = refl
 
@@ -70,7 +70,7 @@ visible_one mid u (t ∷ ts) =
     ap (λ b. b && each_pair (host_visible mid) ts (u ∷ [])) (and_true (host_visible mid t u)) ∙ ap (λ b. host_visible mid t u && b) (visible_one mid u ts)
 
 -- a hazard that is not covered, of the operations at two places
-abbrev open_pair : List VkOp → ℕ → ℕ → VkOp → VkOp → Bool
+abbrev pub open_pair : List VkOp → ℕ → ℕ → VkOp → VkOp → Bool
 open_pair ops x y o p = lists_conflict (op_touches o) (op_touches p) && not (sides_ordered ops x y (side o) (side p) && visible (between ops x y) o p)
 
 of_command : (ops : List VkOp) (x y : ℕ) (c : Command) (p : VkOp) → is_command_open (drop (suc x) ops) (between ops x y) c p ≡ open_pair ops x y (op.Command c) p
@@ -107,7 +107,7 @@ of_pair ops x y (op.HostRead r call) (op.Submit k) = refl
 of_pair ops x y (op.HostRead r call) (op.Fence k) = refl
 of_pair ops x y (op.HostRead r call) (op.HostRead s d) = sym (and_false (lists_conflict (op_touches (op.HostRead r call)) (op_touches (op.HostRead s d))))
 
-uncovered_at : (ops : List VkOp) (x y : ℕ) (o p : VkOp) → x < y → slice_get ops x ≡ Some o → slice_get ops y ≡ Some p → uncovered ops x y ≡ open_pair ops x y o p
+pub uncovered_at : (ops : List VkOp) (x y : ℕ) (o p : VkOp) → x < y → slice_get ops x ≡ Some o → slice_get ops y ≡ Some p → uncovered ops x y ≡ open_pair ops x y o p
 uncovered_at ops x y o p lt e f =
     let there = lt-ltb x y lt in
     ap (λ b. (b && lists_conflict (touches_at ops x) (touches_at ops y)) && not ((b && sides_ordered ops x y (side_at ops x) (side_at ops y)) && visible_at ops x y)) there
@@ -130,18 +130,27 @@ past_end ops x y le =
     ap (λ b. b && not (before ops x y && visible_at ops x y))
     (ap (λ a. nat_lt x y && lists_conflict (touches_at ops x) (touches_if a)) none ∙ (ap (λ b. nat_lt x y && b) (conflict_none (touches_at ops x)) ∙ and_false (nat_lt x y)))
 
-pub one_second : (ops : List VkOp) (second : ℕ) → ((x y : ℕ) → y < second → uncovered ops x y ≡ false) → ((x : ℕ) → x < second → uncovered ops x second ≡ false)
-    → (x y : ℕ) → y < second + 1 → uncovered ops x y ≡ false
-one_second ops second before_it here x y lt =
-    elim (cases_lt y second) [
-      | inl l ↦ before_it x y l
-      | inr ge ↦
-          let same : y ≡ second = omega (arith, lt, ge) in
-          elim (cases_lt x second) [
-            | inl l ↦ subst (λ z. uncovered ops x z ≡ false) (sym same) (here x l)
-            | inr g ↦ backward ops x y (omega (arith, g, same))
-          ]
-    ]
-
 pub all_seconds : (ops : List VkOp) (n : ℕ) → length ops ≤ n → ((x y : ℕ) → y < n → uncovered ops x y ≡ false) → Covered ops
 all_seconds ops n le h x y = elim (cases_lt y n) [ inl l ↦ h x y l | inr g ↦ past_end ops x y (omega (arith, le, g)) ]
+
+-- only a command is open to what stands behind it
+pub others_closed : (ops : List VkOp) (x y : ℕ) (o : VkOp) → slice_get ops x ≡ Some o → ((c : Command) → o ≡ op.Command c → ⊥) → uncovered ops x y ≡ false
+others_closed ops x y o e n =
+    elim (cases_lt x y) [
+      | inr ge ↦ backward ops x y ge
+      | inl l ↦ elim (cases_lt y (length ops)) [
+        | inr past ↦ past_end ops x y past
+        | inl within ↦
+            let p = get_or ops y o in
+            sym (open_is ops x y o p l e (slice_get-get_or ops y o within)) ∙ closed (drop (x + 1) ops) (take (y - (x + 1)) (drop (x + 1) ops)) o p n
+      ]
+    ]
+  where
+    closed : (rest mid : List VkOp) (o p : VkOp) → ((c : Command) → o ≡ op.Command c → ⊥) → is_pair_open rest mid o p ≡ false
+    closed rest mid (op.HostWrite r call) p n = refl
+    closed rest mid (op.Pipeline shader) p n = refl
+    closed rest mid (op.Barrier barrier) p n = refl
+    closed rest mid (op.Command c) p n = absurd (n c refl)
+    closed rest mid (op.Submit k) p n = refl
+    closed rest mid (op.Fence k) p n = refl
+    closed rest mid (op.HostRead r call) p n = refl

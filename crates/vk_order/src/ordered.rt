@@ -7,7 +7,8 @@ ghost use Rattle.vk_types.specs.Before.{names_stages_of, barrier_orders, op_orde
 
 use vk_types::{Barrier, Command, Mask, Stage, VkOp};
 
-fn names_stages_of(m: &Mask, c: &Command) -> bool
+/// Whether the mask names each stage of the command.
+pub fn names_stages_of(m: &Mask, c: &Command) -> bool
     ensures { result ≡ names_stages_of m.now c.now }
 {
     ((!c.has_stage(Stage::Indirect) || m.indirect.is_some())

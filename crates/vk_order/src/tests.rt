@@ -128,6 +128,51 @@ fn by_fences(rt: HostRuntime) -> Result<(), Fail> {
     Ok(())
 }
 
+fn fill(number: u64, target: u32) -> VkOp {
+    command(
+        number,
+        Work::Fill {
+            target: block(target),
+            word: 0,
+        },
+    )
+}
+
+// Of several breaks the one with the least second place is told, also where its first act stands later; and behind a
+// barrier that serves a command the host's writes still wait for it.
+#[test]
+fn first_breaks(rt: HostRuntime) -> Result<(), Fail> {
+    let alloc = rt.alloc();
+    let nested = vec![in alloc; fill(1, 512), fill(2, 513), fill(3, 513), fill(4, 512)]?;
+    assert_eq!(rt; nested.len(), 4);
+    assert_eq!(rt;
+        covered(&nested),
+        Err(Uncovered {
+            first: 1,
+            second: 2
+        })
+    );
+    let host = VkOp::HostWrite {
+        range: block(512),
+        call: 3,
+    };
+    let served = barrier(
+        Mask::device(Access::WRITE),
+        Mask::device(Access::READ_WRITE),
+        Some(2),
+    );
+    let written = vec![in alloc; fill(1, 513), fill(2, 512), served, fill(3, 512), host]?;
+    assert_eq!(rt; written.len(), 5);
+    assert_eq!(rt;
+        covered(&written),
+        Err(Uncovered {
+            first: 1,
+            second: 4
+        })
+    );
+    Ok(())
+}
+
 #[test]
 fn orders(rt: HostRuntime) -> Result<(), Fail> {
     let alloc = rt.alloc();

@@ -1,16 +1,19 @@
 //! Whether a barrier makes what was written visible.
 
-ghost use Rattle.std.specs.Prelude.{◌≡◌};
+ghost use Rattle.std.specs.Prelude.{◌≡◌, IsTrue};
 ghost use Rattle.std.specs.List.{list_any};
 ghost use Rattle.vk_types.specs.declared.touch.Touch.{Touch};
 ghost use Rattle.vk_types.specs.Lists.{all_pass};
 ghost use Rattle.vk_types.specs.Hazards.{touches, host_read_touch};
 ghost use Rattle.vk_types.specs.Covered.{makes_visible, makes_host_visible, commands_visible, host_visible, op_barrier, each_pair};
 ghost use Rattle.vk_types.specs.Covered as cover;
-ghost use Rattle.vk_order.specs.Asks.{orders_visibly};
+ghost use Rattle.vk_types.specs.Hazards.{read_write_access};
+ghost use Rattle.vk_types.specs.BarrierCauses.{all_device};
+ghost use Rattle.vk_types.specs.Serving.{Serves, ServesOp};
+ghost use Rattle.vk_order.specs.Asks.{orders_visibly, is_available};
 
-use crate::ordered::barrier_orders;
-use vk_types::{Access, Barrier, Command, Stage, Touch, VkOp};
+use crate::ordered::{barrier_orders, names_stages_of};
+use vk_types::{Access, Barrier, Command, Mask, Stage, Touch, VkOp};
 
 fn writes_named(access: Option<Access>) -> bool
     ensures { result ≡ cover.writes_named access }
@@ -133,4 +136,51 @@ pub fn command_is_visible_to_host(mid: &[VkOp], c: &Command, u: &Touch) -> bool
         }
     }
     true
+}
+
+fn is_available(source: &Mask, t: &Touch) -> bool
+    ensures { result ≡ is_available source.now t.now }
+{
+    !t.access.writes() || writes_named(source.at(t.stage))
+}
+
+fn all_available(source: &Mask, c: &Command) -> bool
+    ensures { result ≡ all_pass (is_available source.now) (touches c.now) }
+{
+    for i in 0..c.touch_count() {
+        if let Some(t) = c.touch_at(i) {
+            if !is_available(source, &t) {
+                return false;
+            }
+        }
+    }
+    true
+}
+
+/// Whether the operation is a barrier that serves the command: it covers each hazard between the command and one behind it.
+pub fn serves(c: &Command, o: &VkOp) -> bool
+    ensures { IsTrue result → ServesOp c.now o.now }
+{
+    match o {
+        VkOp::Barrier(b) => barrier_serves(c, b),
+        _ => false,
+    }
+}
+
+fn barrier_serves(c: &Command, b: &Barrier) -> bool
+    ensures { IsTrue result → Serves c.now b.now }
+{
+    if !is_whole(&b.dest) {
+        return false;
+    }
+    if !names_stages_of(&b.source, c) {
+        return false;
+    }
+    all_available(&b.source, c)
+}
+
+fn is_whole(dest: &Mask) -> bool
+    ensures { IsTrue result → dest.now ≡ all_device read_write_access }
+{
+    *dest == Mask::device(Access::READ_WRITE)
 }

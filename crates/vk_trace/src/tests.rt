@@ -24,7 +24,7 @@ const LISTINGS: [&str; 9] = [
 ];
 
 // Texts, each with its first bad line.
-const BAD: [(&str, u64); 71] = [
+const BAD: [(&str, u64); 78] = [
     ("submit 1", 1),
     ("\n", 1),
     ("submit 1\n\n", 2),
@@ -49,17 +49,24 @@ const BAD: [(&str, u64); 71] = [
     ("host-write 1 0 4 call 1\n", 1),
     ("host-write b01 0 4 call 1\n", 1),
     ("host-write b4294967296 0 4 call 1\n", 1),
+    ("host-write b1 0 18446744073709551616 call 1\n", 1),
     ("host-write b1 0 4 1\n", 1),
     ("host-read b1 4 4 call 1\n", 1),
     ("host-read b1:0-4 call 1\n", 1),
     ("copy 1 r b1:0-4 w b2:0-8 call 1\n", 1),
     ("copy 1 r b1:4-4 w b2:4-4 call 1\n", 1),
+    ("copy 1 r b1:8-4 w b2:8-4 call 1\n", 1),
+    (
+        "copy 1 r b1:0-4 w b2:18446744073709551612-18446744073709551616 call 1\n",
+        1,
+    ),
     ("copy 1 w b1:0-4 r b2:0-4 call 1\n", 1),
     ("copy 1 r b1:00-4 w b2:0-4 call 1\n", 1),
     ("copy 1 r b1-0:4 w b2:0-4 call 1\n", 1),
     ("copy 1 r b1:0-4 w b2:0-4\n", 1),
     ("copy 1 r b1:0-4 w b2:0-4 if b3:0-8 1 call 1\n", 1),
     ("copy 1 r b1:0-4 w b2:0-4 if b3:0-4 call 1\n", 1),
+    ("copy 1 r b1:0-4 w b2:0-4 if b3:0-4 4294967296 call 1\n", 1),
     ("copy 1 r b1:0-4 w b2:0-4 call 1 if b3:0-4 1\n", 1),
     ("copy 1 r b1:0-4 w b2:0-4 call 4294967296\n", 1),
     ("copy 18446744073709551616 r b1:0-4 w b2:0-4 call 1\n", 1),
@@ -81,6 +88,7 @@ const BAD: [(&str, u64); 71] = [
         1,
     ),
     ("dispatch 1 9 1 1 1 call 1\n", 1),
+    ("dispatch 1 p4294967296 1 1 1 call 1\n", 1),
     ("dispatch 1 p9 1 1 call 1\n", 1),
     ("dispatch 1 p9 1 1 4294967296 call 1\n", 1),
     ("dispatch 1 p9 at b1:0-16 call 1\n", 1),
@@ -96,7 +104,9 @@ const BAD: [(&str, u64); 71] = [
     ("barrier all:w all:rw cause 1 18446744073709551616\n", 1),
     ("barrier all:w all:rw cause 1 hosts\n", 1),
     ("barrier all:rw all:rw cause 1 2\n", 1),
+    ("barrier all:r all:rw cause 1 2\n", 1),
     ("barrier compute:r all:rw cause 1 2\n", 1),
+    ("barrier compute:-,transfer:rw all:rw cause 1 2\n", 1),
     ("barrier all:w all:wr cause 1 2\n", 1),
     ("barrier all:w all:rw,host:r cause 1 2\n", 1),
     (
