@@ -1,6 +1,3 @@
-pub mod LiveTotals
-pub mod Blocks
-pub mod Forms
-pub mod First
-pub mod OneCall
 pub mod Advance
+pub mod Verdicts
+pub mod Records

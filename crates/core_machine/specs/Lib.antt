@@ -1,4 +1,4 @@
-pub mod Effects
-pub mod Built
+pub mod Unplayed
+pub mod Commands
 pub mod Machine
-pub mod Act
+pub mod Keeping

@@ -9,6 +9,7 @@ use Rattle.core_machine.specs.declared.events.Flight.TheVariants.{Empty, Waiting
 use Rattle.dx_types.specs.declared.reply.Reply.{Reply}
 use Rattle.dx_types.specs.declared.reply.Reply.TheVariants as replies
 use Rattle.call_log.specs.Call.{Issued}
+use Rattle.core_machine.specs.Commands.{makes_command}
 use Rattle.d3d_model.specs.ReplyText.{replies, replies_upto, reply_at, none_pending}
 
 -- How far the machine is: the calls that were taken, and whether the last of them is a command that was
@@ -93,6 +94,12 @@ rank Ran = 1
 abbrev pub left_of : Progress → ℕ
 left_of p = 3 * (length p.log - p.taken) + rank p.flight + (if p.ended then 0 else 1)
 
+-- the command in flight after an event that was done
+abbrev pub flight_after : Progress → Event → Flight
+flight_after p App = if makes_command p.log (p.taken + 1) then Waiting else Empty
+flight_after p (Run j) = Ran
+flight_after p _ = Empty
+
 -- a step that was made
 pub record Steps (old new : Progress) (r : Stepped) : Type 0 where
   pub log : new.log ≡ old.log
@@ -101,8 +108,8 @@ pub record Steps (old new : Progress) (r : Stepped) : Type 0 where
 
 -- what became of the machine
 abbrev pub Moves : Progress → Event → Stepped → Progress → Type 0
-Moves old e Done new = (is_enabled old e ≡ true) × Steps old new Done
-Moves old e (Line r) new = (is_enabled old e ≡ true) × Steps old new (Line r)
+Moves old e Done new = (is_enabled old e ≡ true) × (new.flight ≡ flight_after old e) × Steps old new Done
+Moves old e (Line r) new = (is_enabled old e ≡ true) × (new.flight ≡ Empty) × Steps old new (Line r)
 Moves old e (Ended r) new = (is_enabled old e ≡ true) × (new.ended ≡ true) × (new.taken ≡ length new.log) × Steps old new (Ended r)
 Moves old e NotEnabled new = (is_enabled old e ≡ false) × (new ≡ old)
 Moves old e NoMemory new = (is_enabled old e ≡ true) × (new.log ≡ old.log)

@@ -1,14 +1,12 @@
-//! The machine that plays a log, one step at a time.
+//! The machine that plays a log by its plan, one step at a time.
 #![tactic(auto)]
 
-mod built;
+mod commands;
 mod events;
-mod live;
 mod machine;
-mod memory;
-mod play;
 mod turn;
+mod unplayed;
 
-pub use built::first_unbuilt;
 pub use events::{Event, Stepped};
 pub use machine::Core;
+pub use unplayed::first_unbuilt;

@@ -1,23 +1,27 @@
 ghost use Rattle.std.specs.Prelude.{◌≡◌, ◌↔◌, IfOk, IfSome, IfNone, IsNone, true};
 ghost use Rattle.call_log.specs.Grammar.{calls_of};
-ghost use Rattle.core_machine.specs.Built.{AllBuilt};
+ghost use Rattle.core_machine.specs.Keeping.{IsPlanned};
 ghost use Rattle.core_machine.specs.Machine.{start, is_enabled, settling, given, Moves, IsFront};
 ghost use Rattle.d3d_model.specs.ReplyText.{replies, none_pending};
 
-use crate::events::{Act, Event, Flight, Stepped};
-use crate::memory::Memory;
-use crate::turn::{act_at, play_at};
+use crate::commands::makes_command;
+use crate::events::{Event, Flight, Stepped};
+use crate::turn::{play_call, play_command};
 use call_log::Log;
+use d3d_plan::Plan;
+use d3d_ref::Machine;
 use dx_types::{CallNo, Reply};
 use std::alloc::{AllocError, Global};
 use std::marker::Model;
 
-/// Plays a log step by step. A clause sees how far it is.
+/// Plays a log by its plan, step by step. A clause sees how far it is. There is no machine once memory ran out in the middle of
+/// a call.
 #[derive(Drop)]
 pub struct Core<'a> {
     alloc: Global,
     log: &'a Log<'a>,
-    memory: Memory,
+    plan: &'a Plan,
+    machine: Option<Machine>,
     taken: CallNo,
     flight: Flight,
     ended: bool,
@@ -26,24 +30,26 @@ pub struct Core<'a> {
 impl<'a> Model for Core<'a> {
     ghost use Rattle.call_log.specs.Grammar.{calls_of};
     ghost use Rattle.core_machine.specs.Machine.{Progress};
-    ghost use Rattle.core_machine.specs.Act.{Keeps};
+    ghost use Rattle.core_machine.specs.Keeping.{Keeps};
 
     ghost Value = { Progress };
 
     ghost view = { λ c. record { log = calls_of c.log.now.frames; taken = c.taken; flight = c.flight; ended = c.ended } };
 
-    ghost invariant = { λ c. Keeps (calls_of c.log.now.frames) c.memory c.taken c.flight c.ended };
+    ghost invariant = { λ c. Keeps c.log.now.frames c.plan.now c.machine c.taken c.flight c.ended };
 }
 
 impl<'a> Core<'a> {
-    pub fn new(alloc: Global, log: &'a Log<'a>) -> Result<Core<'a>, AllocError>
-        requires { AllBuilt (calls_of log.now.frames) }
+    /// Before the first call of a log, with its plan.
+    pub fn new(alloc: Global, log: &'a Log<'a>, plan: &'a Plan) -> Result<Core<'a>, AllocError>
+        requires { IsPlanned log.now.frames plan.now }
         ensures { IfOk result (λ core. core ≡ start (calls_of log.entry.now.frames)) }
     {
         Ok(Core {
             alloc,
             log,
-            memory: Memory::new(alloc),
+            plan,
+            machine: Some(Machine::new(alloc)),
             taken: 0,
             flight: Flight::Empty,
             ended: false,
@@ -88,18 +94,18 @@ impl<'a> Core<'a> {
             return Stepped::Ended(Reply::Finished { calls: self.taken });
         }
         let n = self.taken + 1;
-        match act_at(self.alloc, self.log, n, &mut self.memory) {
-            Act::NoMemory => Stepped::NoMemory,
-            Act::Done => {
+        if makes_command(self.log, self.plan, n) {
+            self.taken = n;
+            self.flight = Flight::Waiting;
+            return Stepped::Done;
+        }
+        match play_call(self.alloc, self.log, self.plan, n, &mut self.machine) {
+            Err(_) => Stepped::NoMemory,
+            Ok(None) => {
                 self.taken = n;
                 Stepped::Done
             }
-            Act::Command => {
-                self.taken = n;
-                self.flight = Flight::Waiting;
-                Stepped::Done
-            }
-            Act::Line(reply) => {
+            Ok(Some(reply)) => {
                 self.taken = n;
                 Stepped::Line(reply)
             }
@@ -113,7 +119,8 @@ impl<'a> Core<'a> {
         if j != 0 || self.flight != Flight::Waiting {
             return Stepped::NotEnabled;
         }
-        match play_at(self.alloc, self.log, self.taken, &mut self.memory) {
+        let n = self.taken;
+        match play_command(self.alloc, self.log, self.plan, n, &mut self.machine) {
             Ok(()) => {
                 self.flight = Flight::Ran;
                 Stepped::Done

@@ -1,15 +1,16 @@
 -- Where a command has an output for its input and no fault is counted, it is written whole, or memory runs out.
-use Rattle.std.proofs.Common.{◌≡◌, ℕ, ◌<◌, List, length, Option, Some, refl, sym, subst, ◌∙◌, ◌⊎◌, inl, inr, arith}
+use Rattle.std.proofs.Common.{◌≡◌, ℕ, ◌<◌, Bool, List, length, Option, Some, refl, sym, subst, ◌∙◌, ◌⊎◌, inl, inr, arith}
 use Rattle.std.specs.Prelude.{IfSome}
 use Rattle.player.specs.declared.command.Command.{Command}
 use Rattle.player.specs.declared.command.Command.TheVariants as commands
 use Rattle.player.specs.declared.status.Status.{Status}
-use Rattle.player.specs.declared.status.Status.TheVariants.{Done, Usage, ReadFault, WriteFault, BadLog, TooLong, NoMemory, BadText, NotBuilt}
-use Rattle.call_log.specs.Grammar.{Frame, calls_of}
+use Rattle.player.specs.declared.status.Status.TheVariants.{Done, Usage, ReadFault, WriteFault, Unsupported, BadLog, TooLong, NoMemory, BadText, NotBuilt}
+use Rattle.call_log.specs.Grammar.{Frame}
 use Rattle.call_log.proofs.OneReading.{one_log, no_fault}
 use Rattle.log_text.proofs.Spelling.{no_bad_line}
-use Rattle.core_machine.specs.Built.{IsFirstUnbuilt}
-use Rattle.player.specs.Outcome.{Answers, IsPlayedLog, FirstUnbuilt, Refuses, WasLeft, Outcome, OutcomeOf, Accepted}
+use Rattle.d3d_plan.specs.Ends.{Never, IsFirst, is_draw_record, is_unbuilt_record}
+use Rattle.core_machine.specs.Unplayed.{is_unplayed_record}
+use Rattle.player.specs.Outcome.{Answers, IsPlayedLog, IsRunOf, FirstDraw, FirstUnbuilt, RunRefuses, Refuses, WasLeft, Outcome, OutcomeOf, Accepted}
 
 told_is : (left : Option (List ℕ)) (all bytes : List ℕ) → left ≡ Some all → WasLeft left bytes → bytes ≡ all
 told_is left all bytes e h = subst (λ (o : Option (List ℕ)). WasLeft o bytes) e h
@@ -17,18 +18,33 @@ told_is left all bytes e h = subst (λ (o : Option (List ℕ)). WasLeft o bytes)
 told_longer : (left : Option (List ℕ)) (all : List ℕ) → left ≡ Some all → IfSome left (λ l. 67108864 < length l) → 67108864 < length all
 told_longer left all e h = subst (λ (o : Option (List ℕ)). IfSome o (λ l. 67108864 < length l)) e h
 
-not_both : (bytes : List ℕ) (frames : List Frame) (n kind : ℕ) → IsPlayedLog bytes frames → FirstUnbuilt bytes n kind → ⊥
-not_both bytes frames n kind played first =
-    let same = one_log bytes first.frames frames first.log played.log in
-    let here = subst (λ (fs : List Frame). IsFirstUnbuilt (calls_of fs) n) same first.first in
-    let e = sym here.here ∙ played.built n in
+-- a record that is the first of some kind is not missing
+not_missing : (test : Frame → Bool) (frames : List Frame) (n kind : ℕ) → Never test frames → IsFirst test frames n kind → ⊥
+not_missing test frames n kind never first =
+    let at = first.found in
+    let e = sym (never n at.0 at.1) ∙ at.2 in
     absurd cc
+
+no_first_draw : (unbuilt : Frame → Bool) (bytes : List ℕ) (frames : List Frame) (n : ℕ) → IsPlayedLog unbuilt bytes frames → FirstDraw bytes n → ⊥
+no_first_draw unbuilt bytes frames n played draw =
+    let same = one_log bytes draw.frames frames draw.log played.log in
+    not_missing is_draw_record frames n draw.kind played.no_draw (subst (λ (fs : List Frame). IsFirst is_draw_record fs n draw.kind) same draw.first)
+
+no_first_unbuilt : (unbuilt : Frame → Bool) (bytes : List ℕ) (frames : List Frame) (n kind : ℕ) → IsPlayedLog unbuilt bytes frames → FirstUnbuilt unbuilt bytes n kind → ⊥
+no_first_unbuilt unbuilt bytes frames n kind played first =
+    let same = one_log bytes first.frames frames first.log played.log in
+    not_missing unbuilt frames n kind played.built (subst (λ (fs : List Frame). IsFirst unbuilt fs n kind) same first.first)
+
+run_not_refused : (unbuilt : Frame → Bool) (bytes out : List ℕ) (s : Status) → IsRunOf unbuilt bytes out → RunRefuses unbuilt bytes s → ⊥
+run_not_refused unbuilt bytes out (BadLog fault) a r = no_fault bytes a.0 fault a.1.log r
+run_not_refused unbuilt bytes out (Unsupported n) a r = no_first_draw unbuilt bytes a.0 n a.1 r
+run_not_refused unbuilt bytes out (NotBuilt n kind) a r = no_first_unbuilt unbuilt bytes a.0 n kind a.1 r
+run_not_refused unbuilt bytes out _ a r = absurd r
 
 -- bytes for which a command has an output aren't refused
 refused_not : (c : Command) (bytes out : List ℕ) (s : Status) → Answers c bytes out → Refuses c bytes s → ⊥
-refused_not commands.Replay bytes out (BadLog fault) a r = no_fault bytes a.0 fault a.1.log r
-refused_not commands.Replay bytes out (NotBuilt n kind) a r = not_both bytes a.0 n kind a.1 r
-refused_not commands.Replay bytes out _ a r = absurd r
+refused_not commands.Replay bytes out s a r = run_not_refused is_unplayed_record bytes out s a r
+refused_not commands.Ref bytes out s a r = run_not_refused is_unbuilt_record bytes out s a r
 refused_not commands.List bytes out (BadLog fault) a r = no_fault bytes a.0 fault a.1 r
 refused_not commands.List bytes out _ a r = absurd r
 refused_not commands.Asm bytes out (BadText line) a r = no_bad_line bytes out line a r
@@ -46,6 +62,7 @@ ends c ReadFault left old new acc h a b = absurd (a refl)
 ends c WriteFault left old new acc h a b = absurd (b refl)
 ends c TooLong left old new acc h a b = let long = told_longer left acc.bytes acc.told h.0 in absurd (omega (arith, acc.short))
 ends c (BadLog fault) left old new acc h a b = absurd (not_refused c left (BadLog fault) h.0 acc h.1 h.2.refuses)
+ends c (Unsupported n) left old new acc h a b = absurd (not_refused c left (Unsupported n) h.0 acc h.1 h.2.refuses)
 ends c (BadText line) left old new acc h a b = absurd (not_refused c left (BadText line) h.0 acc h.1 h.2.refuses)
 ends c (NotBuilt n kind) left old new acc h a b = absurd (not_refused c left (NotBuilt n kind) h.0 acc h.1 h.2.refuses)
 

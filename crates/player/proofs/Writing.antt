@@ -1,5 +1,5 @@
 -- What is written while a log is played.
-use Rattle.std.proofs.Common.{◌≡◌, ℕ, List, [], ◌∷◌, ◌++◌, length, take, drop, Option, refl, sym, ap, subst, ◌∙◌, append_assoc}
+use Rattle.std.proofs.Common.{◌≡◌, ℕ, zero, suc, ◌<◌, List, [], ◌∷◌, ◌++◌, length, take, drop, get_or, Option, refl, sym, ap, subst, ◌∙◌, append_assoc, arith}
 use Rattle.std.proofs.lemmas.List.{append-nil, take_at, take-append-drop}
 use Rattle.std.proofs.lemmas.List.Concat.{flat_map-append}
 use Rattle.dx_types.specs.declared.reply.Reply.{Reply}
@@ -12,7 +12,7 @@ use Rattle.d3d_model.proofs.Replies.{replies_upto-none}
 use Rattle.player.specs.declared.status.Status.{Status}
 use Rattle.player.specs.declared.run.Unsaid as unsaid
 use Rattle.player.specs.declared.run.Unsaid.TheVariants as unsaids
-use Rattle.player.specs.Outcome.{Plays, status_for}
+use Rattle.player.specs.Outcome.{Tells, status_for}
 use Rattle.core_machine.specs.Machine.{Progress, start, given, IsFront}
 
 -- what the machine said so far
@@ -67,9 +67,30 @@ half_line a b c old new log r same f more held half =
     ∙ append_assoc x (drop n (line r)) (lines f.rest) in
     subst (λ (l : List Issued). AppendsFront a (text l none_pending) c) same (written_front a c (text new.log none_pending) x rest split (appends_then a b c (output_of old) (take n (line r)) held half.1))
 
-pub unsaid_plays : (end : unsaid.Unsaid) (s : Status) (log : List Issued) (a c : Option (List ℕ)) → s ≡ status_for end → AppendsFront a (text log none_pending) c → Plays log a s c
-unsaid_plays end s log a c e front = subst (λ (t : Status). Plays log a t c) (sym e) (at_end end log a c front)
+lines_at : (rs : List Reply) (i : ℕ) (d r : Reply) → i < length rs → r ≡ get_or rs i d → lines rs ≡ lines (take i rs) ++ (line r ++ lines (drop (suc i) rs))
+lines_at [] i d r below there = absurd (omega arith)
+lines_at (x ∷ rs) zero d r below there = ap (λ (y : Reply). line y ++ lines rs) (sym there)
+lines_at (x ∷ rs) (suc i) d r below there = ap (λ (l : List ℕ). line x ++ l) (lines_at rs i d r (omega arith) there) ∙ sym (append_assoc (line x) (lines (take i rs)) (line r ++ lines (drop (suc i) rs)))
+
+split_line : (rs : List Reply) (i : ℕ) (d r : Reply) (n : ℕ) → i < length rs → r ≡ get_or rs i d
+    → lines rs ≡ (lines (take i rs) ++ take n (line r)) ++ (drop n (line r) ++ lines (drop (suc i) rs))
+split_line rs i d r n below there =
+    lines_at rs i d r below there
+    ∙ ap (λ (l : List ℕ). lines (take i rs) ++ (l ++ lines (drop (suc i) rs))) (sym (take-append-drop n (line r)))
+    ∙ ap (λ (l : List ℕ). lines (take i rs) ++ l) (append_assoc (take n (line r)) (drop n (line r)) (lines (drop (suc i) rs)))
+    ∙ sym (append_assoc (lines (take i rs)) (take n (line r)) (drop n (line r) ++ lines (drop (suc i) rs)))
+
+-- so many replies were said, and a front of the next one's line
+pub said_front : (a b c : Option (List ℕ)) (rs : List Reply) (i : ℕ) (d r : Reply) → i < length rs → r ≡ get_or rs i d → Appends a (lines (take i rs)) b → AppendsFront b (line r) c → AppendsFront a (lines rs) c
+said_front a b c rs i d r below there held half =
+    let n = half.0 in
+    let x : List ℕ = lines (take i rs) ++ take n (line r) in
+    let rest : List ℕ = drop n (line r) ++ lines (drop (suc i) rs) in
+    written_front a c (lines rs) x rest (split_line rs i d r n below there) (appends_then a b c (lines (take i rs)) (take n (line r)) held half.1)
+
+pub unsaid_tells : (end : unsaid.Unsaid) (s : Status) (bytes : List ℕ) (a c : Option (List ℕ)) → s ≡ status_for end → AppendsFront a bytes c → Tells bytes a s c
+unsaid_tells end s bytes a c e front = subst (λ (t : Status). Tells bytes a t c) (sym e) (at_end end bytes a c front)
   where
-    at_end : (end : unsaid.Unsaid) (log : List Issued) (a c : Option (List ℕ)) → AppendsFront a (text log none_pending) c → Plays log a (status_for end) c
-    at_end unsaids.Fault log a c front = front
-    at_end unsaids.NoMemory log a c front = front
+    at_end : (end : unsaid.Unsaid) (bytes : List ℕ) (a c : Option (List ℕ)) → AppendsFront a bytes c → Tells bytes a (status_for end) c
+    at_end unsaids.Fault bytes a c front = front
+    at_end unsaids.NoMemory bytes a c front = front

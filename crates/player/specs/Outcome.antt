@@ -1,11 +1,11 @@
 -- What each status says of the input and the output.
-use Rattle.std.specs.Prelude.{◌≡◌, ℕ, ◌<◌, ◌≤◌, List, [], length, Option, Some, None, IfSome, ◌⊎◌}
+use Rattle.std.specs.Prelude.{◌≡◌, ℕ, ◌<◌, ◌≤◌, Bool, List, [], length, Option, Some, None, IfSome, ◌⊎◌}
 use Rattle.std.specs.Option.{option_map}
 use Rattle.dx_io.specs.Told.{Appends, AppendsFront}
 use Rattle.player.specs.declared.command.Command.{Command}
 use Rattle.player.specs.declared.command.Command.TheVariants as commands
 use Rattle.player.specs.declared.status.Status.{Status}
-use Rattle.player.specs.declared.status.Status.TheVariants.{Done, Usage, ReadFault, WriteFault, BadLog, TooLong, NoMemory, BadText, NotBuilt}
+use Rattle.player.specs.declared.status.Status.TheVariants.{Done, Usage, ReadFault, WriteFault, Unsupported, BadLog, TooLong, NoMemory, BadText, NotBuilt}
 use Rattle.player.specs.declared.run.Unsaid.{Unsaid}
 use Rattle.player.specs.declared.run.Unsaid.TheVariants.{Fault}
 use Rattle.player.specs.declared.run.Unsaid.TheVariants as unsaid
@@ -13,18 +13,25 @@ use Rattle.call_log.specs.Call.{Issued}
 use Rattle.call_log.specs.Grammar.{Frame, IsLog, IsFault, calls_of, frame_no}
 use Rattle.log_text.specs.LogText.{LogText, IsFirstBad, text_of}
 use Rattle.d3d_model.specs.ReplyText.{text, none_pending}
-use Rattle.core_machine.specs.Built.{AllBuilt, IsFirstUnbuilt}
+use Rattle.d3d_plan.specs.Ends.{Never, IsFirst, is_draw_record, is_unbuilt_record}
+use Rattle.core_machine.specs.Unplayed.{is_unplayed_record}
 
 -- ---- what a command makes of its input
 
--- a log of these records, each call of which is played
-pub record IsPlayedLog (bytes : List ℕ) (frames : List Frame) : Type 0 where
+-- a log of these records, without a draw and without a call that is still to be built
+pub record IsPlayedLog (unbuilt : Frame → Bool) (bytes : List ℕ) (frames : List Frame) : Type 0 where
   pub log : IsLog bytes frames
-  pub built : AllBuilt (calls_of frames)
+  pub no_draw : Never is_draw_record frames
+  pub built : Never unbuilt frames
+
+-- the text of a run of such a log
+abbrev pub IsRunOf : (Frame → Bool) → List ℕ → List ℕ → Type 0
+IsRunOf unbuilt bytes out = (frames : List Frame) × IsPlayedLog unbuilt bytes frames × (out ≡ text (calls_of frames) none_pending)
 
 -- the whole output of a command for these bytes
 abbrev pub Answers : Command → List ℕ → List ℕ → Type 0
-Answers commands.Replay bytes out = (frames : List Frame) × IsPlayedLog bytes frames × (out ≡ text (calls_of frames) none_pending)
+Answers commands.Replay bytes out = IsRunOf is_unplayed_record bytes out
+Answers commands.Ref bytes out = IsRunOf is_unbuilt_record bytes out
 Answers commands.List bytes out = (frames : List Frame) × IsLog bytes frames × (out ≡ text_of frames)
 Answers commands.Asm bytes out = LogText bytes out
 
@@ -32,18 +39,31 @@ Answers commands.Asm bytes out = LogText bytes out
 abbrev pub IsKindOf : List Frame → ℕ → ℕ → Type 0
 IsKindOf frames n kind = IfSome (option_map (λ f. f.kind) (frame_no frames n)) (λ k. kind ≡ k)
 
--- the first call that isn't played, with its kind
-pub record FirstUnbuilt (bytes : List ℕ) (n kind : ℕ) : Type 0 where
+-- the first draw of a log
+pub record FirstDraw (bytes : List ℕ) (n : ℕ) : Type 0 where
   pub frames : List Frame
   pub log : IsLog bytes frames
-  pub first : IsFirstUnbuilt (calls_of frames) n
-  pub names : IsKindOf frames n kind
+  pub kind : ℕ
+  pub first : IsFirst is_draw_record frames n kind
+
+-- the first call that is still to be built, with its kind, in a log without draws
+pub record FirstUnbuilt (unbuilt : Frame → Bool) (bytes : List ℕ) (n kind : ℕ) : Type 0 where
+  pub frames : List Frame
+  pub log : IsLog bytes frames
+  pub no_draw : Never is_draw_record frames
+  pub first : IsFirst unbuilt frames n kind
+
+-- why a log is not run
+abbrev pub RunRefuses : (Frame → Bool) → List ℕ → Status → Type 0
+RunRefuses unbuilt bytes (BadLog fault) = IsFault bytes fault
+RunRefuses unbuilt bytes (Unsupported n) = FirstDraw bytes n
+RunRefuses unbuilt bytes (NotBuilt n kind) = FirstUnbuilt unbuilt bytes n kind
+RunRefuses unbuilt bytes _ = ⊥
 
 -- why a command writes nothing for these bytes
 abbrev pub Refuses : Command → List ℕ → Status → Type 0
-Refuses commands.Replay bytes (BadLog fault) = IsFault bytes fault
-Refuses commands.Replay bytes (NotBuilt n kind) = FirstUnbuilt bytes n kind
-Refuses commands.Replay bytes _ = ⊥
+Refuses commands.Replay bytes s = RunRefuses is_unplayed_record bytes s
+Refuses commands.Ref bytes s = RunRefuses is_unbuilt_record bytes s
 Refuses commands.List bytes (BadLog fault) = IsFault bytes fault
 Refuses commands.List bytes _ = ⊥
 Refuses commands.Asm bytes (BadText line) = IsFirstBad bytes line
@@ -77,6 +97,7 @@ abbrev pub CameOf : Command → List ℕ → Option (List ℕ) → Status → Op
 CameOf c bytes old Done new = WritesAll c bytes old new
 CameOf c bytes old WriteFault new = WritesFront c bytes old new
 CameOf c bytes old NoMemory new = Silent old new ⊎ WritesFront c bytes old new
+CameOf c bytes old (Unsupported n) new = Declines c bytes (Unsupported n) old new
 CameOf c bytes old (BadLog fault) new = Declines c bytes (BadLog fault) old new
 CameOf c bytes old (BadText line) new = Declines c bytes (BadText line) old new
 CameOf c bytes old (NotBuilt n kind) new = Declines c bytes (NotBuilt n kind) old new
@@ -100,6 +121,7 @@ Outcome c left old TooLong new = IfSome left (λ all. 67108864 < length all) × 
 Outcome c left old NoMemory new = Silent old new ⊎ OfInput left (λ bytes. WritesFront c bytes old new)
 Outcome c left old Done new = OfInput left (λ bytes. WritesAll c bytes old new)
 Outcome c left old WriteFault new = OfInput left (λ bytes. WritesFront c bytes old new)
+Outcome c left old (Unsupported n) new = OfInput left (λ bytes. Declines c bytes (Unsupported n) old new)
 Outcome c left old (BadLog fault) new = OfInput left (λ bytes. Declines c bytes (BadLog fault) old new)
 Outcome c left old (BadText line) new = OfInput left (λ bytes. Declines c bytes (BadText line) old new)
 Outcome c left old (NotBuilt n kind) new = OfInput left (λ bytes. Declines c bytes (NotBuilt n kind) old new)
@@ -119,17 +141,28 @@ pub record Accepted (c : Command) (left : Option (List ℕ)) : Type 0 where
 
 -- ---- parts of a run
 
--- what a run of these calls wrote: at the end their whole text, and else some front of it
+-- these bytes were written, and else some front of them
+abbrev pub Tells : List ℕ → Option (List ℕ) → Status → Option (List ℕ) → Type 0
+Tells bytes old Done new = Appends old bytes new
+Tells bytes old WriteFault new = AppendsFront old bytes new
+Tells bytes old NoMemory new = AppendsFront old bytes new
+Tells bytes old _ new = ⊥
+
+-- what a run of these calls wrote
 abbrev pub Plays : List Issued → Option (List ℕ) → Status → Option (List ℕ) → Type 0
-Plays calls old Done new = Appends old (text calls none_pending) new
-Plays calls old WriteFault new = AppendsFront old (text calls none_pending) new
-Plays calls old NoMemory new = AppendsFront old (text calls none_pending) new
-Plays calls old _ new = ⊥
+Plays calls old s new = Tells (text calls none_pending) old s new
 
 -- the status names call n of these records with its kind
 abbrev pub IsNotBuilt : List Frame → ℕ → Status → Type 0
 IsNotBuilt frames n (NotBuilt m kind) = (m ≡ n) × IsKindOf frames n kind
 IsNotBuilt frames n _ = ⊥
+
+-- why a log of these records, which has no plan, is not replayed
+abbrev pub UnplannedStatus : List Frame → Status → Type 0
+UnplannedStatus frames NoMemory = Unit
+UnplannedStatus frames (Unsupported n) = (kind : ℕ) × IsFirst is_draw_record frames n kind
+UnplannedStatus frames (NotBuilt n kind) = Never is_draw_record frames × IsFirst is_unplayed_record frames n kind
+UnplannedStatus frames _ = ⊥
 
 -- these bytes were written, or a front of them
 abbrev pub Writes : List ℕ → Option (List ℕ) → Status → Option (List ℕ) → Type 0

@@ -18,6 +18,9 @@ kind_name kinds.NoEnd = codes "NoEnd"
 abbrev pub bad_log_text : LogFault → List ℕ
 bad_log_text fault = kind_name fault.kind ++ (codes " at " ++ decimal fault.at)
 
+abbrev pub draw_text : ℕ → List ℕ
+draw_text n = codes "call " ++ (decimal n ++ codes " is a draw")
+
 abbrev pub bad_text_text : ℕ → List ℕ
 bad_text_text line = codes "line " ++ decimal line
 
@@ -29,6 +32,7 @@ text_of statuses.Done = []
 text_of statuses.Usage = codes "usage"
 text_of statuses.ReadFault = codes "read fault"
 text_of statuses.WriteFault = codes "write fault"
+text_of (statuses.Unsupported n) = draw_text n
 text_of (statuses.BadLog fault) = bad_log_text fault
 text_of statuses.TooLong = codes "longer than 67108864 bytes"
 text_of statuses.NoMemory = codes "no memory"

@@ -9,6 +9,7 @@ use Rattle.player.specs.declared.command.Command.TheVariants as commands
 abbrev pub command_by_word : List ℕ → Option Command
 command_by_word word =
     if bytes_eq word (codes "replay") then Some commands.Replay
+    else if bytes_eq word (codes "ref") then Some commands.Ref
     else if bytes_eq word (codes "list") then Some commands.List
     else if bytes_eq word (codes "asm") then Some commands.Asm
     else None

@@ -6,6 +6,8 @@ ghost use Rattle.player.specs.Words.{command_of};
 pub(crate) enum Command {
     /// Play a log, and write the lines of its replies.
     Replay,
+    /// Play a log call by call in order, and write the lines of its replies.
+    Ref,
     /// Write the text of a log.
     List,
     /// Write the log of a text.
@@ -19,6 +21,7 @@ pub(crate) fn command_of(words: &[String]) -> Option<Command>
     match words {
         [word] => match word.as_str() {
             "replay" => Some(Command::Replay),
+            "ref" => Some(Command::Ref),
             "list" => Some(Command::List),
             "asm" => Some(Command::Asm),
             _ => None,

@@ -1,7 +1,7 @@
 ghost use Rattle.std.specs.Prelude.{◌≡◌, IfOk};
 ghost use Rattle.std.specs.String.{string_bytes};
 ghost use Rattle.player.specs.Number.{number_of};
-ghost use Rattle.player.specs.StatusText.{text_of, bad_log_text, bad_text_text, not_built_text, kind_name};
+ghost use Rattle.player.specs.StatusText.{text_of, bad_log_text, bad_text_text, draw_text, not_built_text, kind_name};
 
 use call_log::{LogFault, LogKind};
 use dx_types::CallNo;
@@ -18,6 +18,8 @@ pub enum Status {
     ReadFault,
     /// A write to the sink failed.
     WriteFault,
+    /// Call n of the log is the first draw: draws are not played.
+    Unsupported { n: CallNo },
     /// The input is no log: its first fault.
     BadLog { fault: LogFault },
     /// The input is longer than 67,108,864 bytes.
@@ -39,6 +41,7 @@ pub fn status_number(s: &Status) -> u8
         Status::Usage => 1,
         Status::ReadFault => 2,
         Status::WriteFault => 3,
+        Status::Unsupported { .. } => 4,
         Status::BadLog { .. } => 5,
         Status::TooLong => 6,
         Status::NoMemory => 7,
@@ -56,12 +59,19 @@ pub fn status_text(alloc: Global, s: &Status) -> Result<String, AllocError>
         Status::Usage => String::from_str(alloc, "usage"),
         Status::ReadFault => String::from_str(alloc, "read fault"),
         Status::WriteFault => String::from_str(alloc, "write fault"),
+        Status::Unsupported { n } => say_draw(alloc, *n),
         Status::BadLog { fault } => say_bad_log(alloc, fault),
         Status::TooLong => String::from_str(alloc, "longer than 67108864 bytes"),
         Status::NoMemory => String::from_str(alloc, "no memory"),
         Status::BadText { line } => say_bad_text(alloc, *line),
         Status::NotBuilt { n, kind } => say_not_built(alloc, *n, *kind),
     }
+}
+
+fn say_draw(alloc: Global, n: CallNo) -> Result<String, AllocError>
+    ensures { IfOk result (λ text. string_bytes text ≡ draw_text n) }
+{
+    format!(in alloc; "call {n} is a draw")
 }
 
 fn say_bad_log(alloc: Global, fault: &LogFault) -> Result<String, AllocError>

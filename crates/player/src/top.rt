@@ -1,15 +1,18 @@
 ghost use Rattle.std.specs.Prelude.{◌≡◌, ◌≤◌, ◌⊎◌, ℕ, List, length, Some};
 ghost use Rattle.dx_io.specs.Faults.{Rose, IsSteady};
 ghost use Rattle.call_log.specs.Grammar.{IsLog};
+ghost use Rattle.d3d_plan.specs.Ends.{EndsAt};
 ghost use Rattle.player.specs.declared.command.Command as command;
 ghost use Rattle.player.specs.Words.{command_of};
-ghost use Rattle.player.specs.Outcome.{OutcomeOf, Outcome, CameOf, Accepted, IsNotBuilt, Writes};
+ghost use Rattle.player.specs.Outcome.{OutcomeOf, Outcome, CameOf, Accepted, IsNotBuilt, UnplannedStatus, Writes};
 
 use crate::command::{Command, command_of};
-use crate::run::play;
+use crate::run::{play, say_all};
 use crate::status::Status;
 use call_log::{Log, LogEnd, read_log};
 use core_machine::first_unbuilt;
+use d3d_plan::{PlanEnd, make_plan};
+use d3d_ref::reference;
 use dx_io::{ReadEnd, Sink, Source, read_all, write_all};
 use dx_types::CallNo;
 use log_text::{TextEnd, asm, list};
@@ -19,8 +22,8 @@ use std::alloc::Global;
 const MAX_INPUT: u64 = 67_108_864;
 
 /// Does what the words of a command line ask for, which stand here without the program's name. `replay`
-/// reads a log from the source to its end, plays it and writes the line of each reply as it comes; `list` writes
-/// the text of a log, and `asm` the log of a text. The input is at most 67,108,864 bytes.
+/// reads a log from the source to its end, plays it and writes the line of each reply as it comes; `ref` writes the same
+/// lines by a plain machine that takes one call after the other; `list` writes the text of a log, and `asm` the log of a text. The input is at most 67,108,864 bytes.
 pub fn replay<S: Source, K: Sink>(
     alloc: Global,
     words: &[String],
@@ -88,6 +91,7 @@ fn answer<K: Sink>(alloc: Global, command: Command, bytes: &[u8], out: &mut K) -
 {
     match command {
         Command::Replay => replay_bytes(alloc, bytes, out),
+        Command::Ref => ref_bytes(alloc, bytes, out),
         Command::List => list_bytes(alloc, bytes, out),
         Command::Asm => asm_bytes(alloc, bytes, out),
     }
@@ -111,10 +115,28 @@ fn replay_log<K: Sink>(alloc: Global, log: &Log<'_>, out: &mut K) -> Status
     ensures write_fault { result ≡ Status.WriteFault → Rose (K.faults out.old) (K.faults out.new) }
     ensures write_later { K.faults out.old ≤ K.faults out.new }
 {
-    match first_unbuilt(alloc, log) {
-        Ok(None) => play(alloc, log, out),
-        Ok(Some(n)) => not_built(log, n),
-        Err(_) => Status::NoMemory,
+    match make_plan(alloc, log) {
+        Ok(plan) => match first_unbuilt(log) {
+            None => play(alloc, log, &plan, out),
+            Some(n) => not_built(log, n),
+        },
+        Err(end) => not_replayed(log, end),
+    }
+}
+
+// Why a log without a plan is not replayed.
+fn not_replayed(log: &Log<'_>, end: PlanEnd) -> Status
+    requires { EndsAt log.now.frames end }
+    ensures { UnplannedStatus log.now.frames result }
+{
+    match end {
+        PlanEnd::NoMemory => Status::NoMemory,
+        PlanEnd::Unsupported { n, .. } => Status::Unsupported { n },
+        PlanEnd::NotBuilt { .. } => match first_unbuilt(log) {
+            Some(n) => not_built(log, n),
+            // What is not planned is not played.
+            None => unreachable!(),
+        },
     }
 }
 
@@ -124,6 +146,32 @@ fn not_built(log: &Log<'_>, n: CallNo) -> Status
     match log.item(n) {
         Some(item) => Status::NotBuilt { n, kind: item.kind },
         None => Status::NotBuilt { n, kind: 0 },
+    }
+}
+
+fn ref_bytes<K: Sink>(alloc: Global, bytes: &[u8], out: &mut K) -> Status
+    requires { length bytes.now ≤ 67108864 }
+    ensures outcome { CameOf Command.Ref bytes.now (K.held out.old) result (K.held out.new) }
+    ensures write_fault { result ≡ Status.WriteFault → Rose (K.faults out.old) (K.faults out.new) }
+    ensures write_later { K.faults out.old ≤ K.faults out.new }
+{
+    match read_log(alloc, bytes) {
+        Ok(log) => ref_log(alloc, &log, out),
+        Err(LogEnd::Bad(fault)) => Status::BadLog { fault },
+        Err(LogEnd::NoMemory) => Status::NoMemory,
+    }
+}
+
+fn ref_log<K: Sink>(alloc: Global, log: &Log<'_>, out: &mut K) -> Status
+    ensures outcome { (bytes : List ℕ) → IsLog bytes log.now.frames → CameOf Command.Ref bytes (K.held out.old) result (K.held out.new) }
+    ensures write_fault { result ≡ Status.WriteFault → Rose (K.faults out.old) (K.faults out.new) }
+    ensures write_later { K.faults out.old ≤ K.faults out.new }
+{
+    match reference(alloc, log) {
+        Ok(replies) => say_all(alloc, &replies, out),
+        Err(PlanEnd::Unsupported { n, .. }) => Status::Unsupported { n },
+        Err(PlanEnd::NotBuilt { n, kind }) => Status::NotBuilt { n, kind },
+        Err(PlanEnd::NoMemory) => Status::NoMemory,
     }
 }
 

@@ -16,6 +16,14 @@ fn worked_logs(rt: HostRuntime) -> Result<(), Fail> {
     let whole = replayed(&log, UPDATE_COPY_MAP_OUTPUT);
     expect(&rt, alloc, &whole)?;
     expect(&rt, alloc, &Case { most: 1, ..whole })?;
+    expect(
+        &rt,
+        alloc,
+        &Case {
+            word: "ref",
+            ..whole
+        },
+    )?;
     let cut = log.get(..163).ok_or("the log has 164 bytes")?;
     expect(&rt, alloc, &refused(cut, bad(156, LogKind::Truncated)))?;
     log.push(0)?;
@@ -94,6 +102,27 @@ fn not_built_and_too_long(rt: HostRuntime) -> Result<(), Fail> {
     Ok(())
 }
 
+// The most calls that a log of 67,108,864 bytes can have: a header of 8 bytes, and 8 for each call and the end.
+#[test]
+fn longest_log(rt: HostRuntime) -> Result<(), Fail> {
+    let alloc = rt.alloc();
+    let mut log = Vec::new(alloc);
+    put_header(&mut log)?;
+    for _ in 0..8_388_606 {
+        put_call(&mut log, 0, &Call::Flush)?;
+    }
+    put_end(&mut log)?;
+    assert_eq!(rt; log.len(), 67_108_864);
+    let whole = Case {
+        most: 1 << 20,
+        ..replayed(&log, b"end 8388606\n")
+    };
+    for word in ["replay", "ref"] {
+        expect(&rt, alloc, &Case { word, ..whole })?;
+    }
+    Ok(())
+}
+
 #[test]
 fn texts(rt: HostRuntime) -> Result<(), Fail> {
     let alloc = rt.alloc();
@@ -102,6 +131,7 @@ fn texts(rt: HostRuntime) -> Result<(), Fail> {
         (Status::Usage, 1, "usage"),
         (Status::ReadFault, 2, "read fault"),
         (Status::WriteFault, 3, "write fault"),
+        (Status::Unsupported { n: 3 }, 4, "call 3 is a draw"),
         (bad(156, LogKind::Truncated), 5, "Truncated at 156"),
         (Status::TooLong, 6, "longer than 67108864 bytes"),
         (Status::NoMemory, 7, "no memory"),

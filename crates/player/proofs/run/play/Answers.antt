@@ -1,7 +1,8 @@
 use Rattle.std.proofs.Common.{ap, ◌∙◌, arith}
 use Rattle.call_log.specs.Grammar.{calls_of}
+use Rattle.d3d_model.specs.ReplyText.{text, none_pending}
 use Rattle.core_machine.specs.Machine.{Progress}
-use Rattle.player.proofs.Writing.{begun, written_more, so_far, half_line, unsaid_plays}
+use Rattle.player.proofs.Writing.{begun, written_more, so_far, half_line, unsaid_tells}
 use Rattle.player.proofs.run.play.Goals as goal
 
 pub events-init : goal.events-init
@@ -17,7 +18,16 @@ returns-in-NoMemory-clause-plays g c = so_far _ _ c.events.core (calls_of c.args
 
 pub events-preserved-in-Ok-say : goal.events-preserved-in-Ok-say
 events-preserved-in-Ok-say g c =
-    let steps = c.in-Line.ensures.moves.1 in
+    let steps = c.in-Line.ensures.moves.2 in
+    record {
+      later = omega (arith, c.say.ensures.later, c.events.invariant.later);
+      log = steps.log ∙ c.events.invariant.log;
+      held = written_more _ _ _ c.events.core c.step.new.self _ c.events.invariant.held c.in-Ok-say.ensures.ok steps.given;
+    }
+
+pub events-preserved-in-Ok-say-3 : goal.events-preserved-in-Ok-say-3
+events-preserved-in-Ok-say-3 g c =
+    let steps = c.in-Line.ensures.moves.2 in
     record {
       later = omega (arith, c.say.ensures.later, c.events.invariant.later);
       log = steps.log ∙ c.events.invariant.log;
@@ -26,8 +36,8 @@ events-preserved-in-Ok-say g c =
 
 pub returns-in-Err-say-clause-plays : goal.returns-in-Err-say-clause-plays
 returns-in-Err-say-clause-plays g c =
-    let steps = c.in-Line.ensures.moves.1 in
-    unsaid_plays _ _ (calls_of c.args.log.now.frames) _ _ c.status_of.ensures (
+    let steps = c.in-Line.ensures.moves.2 in
+    unsaid_tells _ _ (text (calls_of c.args.log.now.frames) none_pending) _ _ c.status_of.ensures (
     half_line _ _ _ c.events.core c.step.new.self (calls_of c.args.log.now.frames) _ (steps.log ∙ c.events.invariant.log) c.in-Line.ensures.front steps.given c.events.invariant.held c.in-Err-say.ensures.front
     )
 
@@ -43,6 +53,6 @@ events-preserved g c =
 pub returns-in-Err-say-2-clause-plays : goal.returns-in-Err-say-2-clause-plays
 returns-in-Err-say-2-clause-plays g c =
     let steps = c.in-Ended.ensures.moves.3 in
-    unsaid_plays _ _ (calls_of c.args.log.now.frames) _ _ c.status_of-in-Err-say-2.ensures (
+    unsaid_tells _ _ (text (calls_of c.args.log.now.frames) none_pending) _ _ c.status_of-in-Err-say-2.ensures (
     half_line _ _ _ c.events.core c.step.new.self (calls_of c.args.log.now.frames) _ (steps.log ∙ c.events.invariant.log) c.in-Ended.ensures.front steps.given c.events.invariant.held c.in-Err-say-2.ensures.front
     )

@@ -1,12 +1,11 @@
 use Rattle.std.proofs.Common.{subst}
-use Rattle.call_log.specs.Grammar.{calls_of}
 use Rattle.core_machine.specs.Machine.{IsFront}
-use Rattle.core_machine.proofs.Advance.{front_of}
+use Rattle.core_machine.proofs.Advance.{front_at}
 use Rattle.core_machine.proofs.machine.Core.finish.Goals as goal
 use Rattle.core_machine.specs.declared.events.Flight.TheVariants.{Empty}
 
 pub returns-then-ne-clause-front : goal.returns-then-ne-clause-front
-returns-then-ne-clause-front c = subst IsFront c.self.view_is (front_of (calls_of c.self.inside.log.now.frames) c.self.inside.taken c.self.inside.flight c.self.inside.ended c.self.invariant.within c.self.invariant.full)
+returns-then-ne-clause-front c = subst IsFront c.self.view_is (front_at c.self.inside.log.now.frames c.self.inside.taken c.self.inside.flight c.self.inside.ended c.self.invariant.within c.self.invariant.full)
 
 pub returns-clause-front : goal.returns-clause-front
-returns-clause-front c = front_of (calls_of c.self.inside.log.now.frames) c.self.inside.taken Empty c.self.inside.ended c.self.invariant.within c.self.invariant.full
+returns-clause-front c = front_at c.self.inside.log.now.frames c.self.inside.taken Empty c.self.inside.ended c.self.invariant.within c.self.invariant.full

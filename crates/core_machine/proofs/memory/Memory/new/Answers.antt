@@ -1,9 +1,0 @@
-use Rattle.std.proofs.Common.{List, ℕ, ap, ◌∙◌}
-use Rattle.std.specs.Global.{Vec}
-use Rattle.d3d_model.specs.CodeMap.{map_of}
-use Rattle.d3d_model.proofs.CodeMaps.{map_of-nil}
-use Rattle.core_machine.proofs.Blocks.{items_of}
-use Rattle.core_machine.proofs.memory.Memory.new.Goals as goal
-
-pub returns : goal.returns
-returns c = ap (λ (es : List (ℕ × Vec ℕ)). map_of items_of es) c.new.ensures.empty ∙ map_of-nil items_of
