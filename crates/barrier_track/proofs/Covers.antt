@@ -1,29 +1,20 @@
 -- A listing with the barriers that its hazards cause covers each hazard between commands.
-use Rattle.std.proofs.Common.{◌≡◌, ℕ, zero, suc, ◌+◌, ◌-◌, ◌<◌, Bool, true, false, not, cond, ◌&&◌, ◌||◌, nat_lt, List, [], ◌∷◌, ◌++◌, map, take, drop, slice_get, Option, Some, None, is_some, refl, sym, ap, ◌∙◌, subst, ◌⊎◌, inl, inr, arith}
+use Rattle.std.proofs.Common.{◌≡◌, ℕ, zero, suc, ◌+◌, ◌-◌, ◌<◌, Bool, true, false, not, cond, ◌&&◌, ◌||◌, nat_lt, List, [], ◌∷◌, ◌++◌, take, drop, slice_get, Option, Some, None, is_some, refl, sym, ap, ◌∙◌, subst, inl, inr, arith}
 use Rattle.std.specs.List.{list_any}
 use Rattle.std.proofs.lemmas.Bool.{and_parts, both_ways, cases_Bool, ltb-true}
 use Rattle.vk_types.specs.declared.access.Stage.{Stage}
 use Rattle.vk_types.specs.declared.access.Stage.TheVariants as stage
 use Rattle.vk_types.specs.declared.touch.Touch.{Touch}
 use Rattle.vk_types.specs.declared.command.Command.{Command}
-use Rattle.vk_types.specs.declared.command.Cond.{Cond}
-use Rattle.vk_types.specs.declared.command.Groups.{Groups}
-use Rattle.vk_types.specs.declared.command.Groups.TheVariants as groups
-use Rattle.vk_types.specs.declared.command.SlotName.TheVariants as slot
-use Rattle.vk_types.specs.declared.command.SlotName.{SlotName}
-use Rattle.vk_types.specs.declared.command.SlotRange.{SlotRange}
-use Rattle.vk_types.specs.declared.command.Work.{Work}
-use Rattle.vk_types.specs.declared.command.Work.TheVariants as work
 use Rattle.vk_types.specs.declared.op.Barrier.{Barrier}
 use Rattle.vk_types.specs.declared.op.VkOp.{VkOp}
 use Rattle.vk_types.specs.declared.op.VkOp.TheVariants as op
-use Rattle.vk_types.specs.Lists.{all_pass}
-use Rattle.vk_types.specs.Hazards.{touches, touch, read_access, work_touches, groups_touches, cond_touches, slot_touch, has_stage, same_stage, has_write, touches_conflict, conflict, lists_conflict, read_write_access, write_access, no_access, is_dispatch}
+use Rattle.vk_types.specs.Hazards.{touches, has_stage, same_stage, has_write, conflict, lists_conflict, read_write_access, write_access, no_access, is_dispatch}
 use Rattle.vk_types.specs.Listing.{touches_at, touches_if}
-use Rattle.vk_types.specs.Before.{access_at, names_stages_of, barrier_orders, op_orders, On_device, side_at, side_of, sides_ordered, before}
-use Rattle.vk_types.specs.Covered.{writes_named, allowed_by, makes_visible, op_barrier, commands_visible, each_pair, visible_at, visible_if, is_hazard, uncovered}
+use Rattle.vk_types.specs.Before.{access_at, On_device, side_at, side_of, sides_ordered, before}
+use Rattle.vk_types.specs.Covered.{writes_named, visible_at, visible_if, is_hazard, uncovered}
 use Rattle.vk_types.specs.BarrierCauses.{writes_at, source_access, source_mask, all_device, lesser, least_conflict, caused, barrier_before, since_barrier, least_writer, host_barrier, maybe_barrier, barriers_from, HasBarrierCauses}
-use Rattle.vk_types.proofs.Order.{IsNamed, named_last, named_more, source_names, device_names, no_host_stage}
+use Rattle.vk_types.proofs.Order.{IsNamed, named_last, named_more, source_names, no_host_stage}
 use Rattle.vk_types.specs.Serving.{Serves, ServesOp}
 use Rattle.vk_types.proofs.Serving.{HasServing, mid_orders, all_visible}
 use Rattle.std.proofs.lemmas.List.Folds.{list_any-append}
