@@ -12,19 +12,15 @@ use Rattle.d3d_model.specs.Verdict.{verdict}
 use Rattle.d3d_state.specs.Meaning.{objects_of}
 use Rattle.d3d_state.specs.declared.objects.Objects as code
 use Rattle.d3d_uses.specs.Summary.{Uses}
-use Rattle.d3d_checks.specs.Accepted.{Tells, is_built, is_draw, is_recorded, is_shader, is_unbuilt}
+use Rattle.d3d_checks.specs.Accepted.{Tells, is_built, is_draw}
 use Rattle.d3d_checks.specs.Bound.{bound_of}
-use Rattle.d3d_plan.specs.Planned.{Planned, planned_by}
+use Rattle.d3d_checks.specs.Created.{token_words}
+use Rattle.d3d_plan.specs.Planned.{Planned, planned_by, span_in, words_unless}
 use Rattle.d3d_plan.specs.Stands.{Stands}
 
-neither : (shader recorded draw : Bool) → shader || recorded ≡ false → draw ≡ false → not (shader || draw) ≡ true
-neither true recorded draw e d = absurd cc
-neither false recorded true e d = absurd cc
-neither false recorded false e d = refl
-
--- a call that is neither a draw nor unbuilt is built
-pub is_built_by : (i : Issued) → is_unbuilt i ≡ false → is_draw i.call ≡ false → is_built i.call ≡ true
-is_built_by i e d = neither (is_shader i.call) (is_recorded i) (is_draw i.call) e d
+-- a call that is no draw is built
+pub is_built_by : (c : Call) → is_draw c ≡ false → is_built c ≡ true
+is_built_by c e = ap not e
 
 -- the verdict on the kept objects is that of the state
 pub of_state : (s : State) (objects : code.Objects) (uses : Uses) (i : Issued) (r : Option Refusal) → Stands s objects uses → r ≡ verdict (objects_of objects) s.past i → r ≡ verdict_in s i
@@ -34,23 +30,23 @@ abbrev issued_on : ℕ → Call → Issued
 issued_on context c = record { context = context; call = c }
 
 -- what is planned of a call with this verdict
-abbrev planned_with : State → Issued → Option Refusal → Planned
-planned_with s i why = record { verdict = why; last_use = use_unless s i.call why; bound = bound_unless s i why }
+abbrev planned_with : ℕ → State → Issued → Option Refusal → Planned
+planned_with at s i why = record { verdict = why; last_use = use_unless s i.call why; bound = bound_unless s i why; words = words_unless at i why }
 
 pub state_refused : (n : ℕ) (s : State) (i : Issued) (why : Refusal) → Some why ≡ verdict_in s i → s ≡ unless_refused n s i (verdict_in s i)
 state_refused n s i why e = ap (unless_refused n s i) e
 
-pub planned_refused : (s : State) (i : Issued) (why : Refusal) → Some why ≡ verdict_in s i → record { verdict = Some why; last_use = None; bound = [] } ≡ planned_by s (Some i)
-planned_refused s i why e = ap (planned_with s i) e
+pub planned_refused : (at : ℕ) (s : State) (i : Issued) (why : Refusal) → Some why ≡ verdict_in s i → record { verdict = Some why; last_use = None; bound = []; words = None } ≡ planned_by at s (Some i)
+planned_refused at s i why e = ap (planned_with at s i) e
 
 pub state_accepted : (n : ℕ) (s : State) (context : ℕ) (c : Call) → None ≡ verdict_in s (issued_on context c) → context ≡ 0
     → accepted n s 0 c ≡ unless_refused n s (issued_on context c) (verdict_in s (issued_on context c))
 state_accepted n s context c e zero = ap (λ x. accepted n s x c) (sym zero) ∙ ap (unless_refused n s (issued_on context c)) e
 
-pub planned_accepted : (s : State) (context : ℕ) (c : Call) → None ≡ verdict_in s (issued_on context c) → context ≡ 0
-    → record { verdict = None; last_use = use_in s c; bound = bound_of s.objects c } ≡ planned_by s (Some (issued_on context c))
-planned_accepted s context c e zero =
-    ap (λ x. planned_with s (issued_on x c) None) (sym zero) ∙ ap (planned_with s (issued_on context c)) e
+pub planned_accepted : (at : ℕ) (s : State) (context : ℕ) (c : Call) → None ≡ verdict_in s (issued_on context c) → context ≡ 0
+    → record { verdict = None; last_use = use_in s c; bound = bound_of s.objects c; words = span_in at (token_words c) } ≡ planned_by at s (Some (issued_on context c))
+planned_accepted at s context c e zero =
+    ap (λ x. planned_with at s (issued_on x c) None) (sym zero) ∙ ap (planned_with at s (issued_on context c)) e
 
 -- the planner's state after an accepted call
 pub stands_after : (n : ℕ) (s : State) (c : Call) (old new : code.Objects) (before after : Uses) → Stands s old before

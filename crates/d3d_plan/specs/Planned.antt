@@ -1,27 +1,63 @@
 -- What a plan says of the calls of a log.
-use Rattle.std.specs.Prelude.{ℕ, zero, suc, ◌+◌, List, [], ◌∷◌, ◌++◌, Option, None, Some}
+use Rattle.std.specs.Prelude.{ℕ, zero, suc, ◌+◌, List, [], ◌∷◌, ◌++◌, length, sum_by, take, Option, None, Some}
 use Rattle.dx_types.specs.declared.refusal.Refusal.{Refusal}
 use Rattle.dx_types.specs.declared.range.ResRange.{ResRange}
+use Rattle.dx_types.specs.declared.range.Span.{Span}
 use Rattle.call_log.specs.Call.{Issued}
+use Rattle.call_log.specs.Put.{body_length}
 use Rattle.d3d_model.specs.InOrder.{State, verdict_in, before_call, call_at}
 use Rattle.d3d_model.specs.Uses.{bound_by, use_by}
+use Rattle.d3d_checks.specs.Created.{token_words}
 
--- why a call is refused, if it is; the call that it waits for; and the ranges that it binds
+-- why a call is refused, if it is; the call that it waits for; the ranges that it binds; and where the token words of the
+-- shader that it creates stand in the input
 pub record Planned : Type 0 where
   pub verdict : Option Refusal
   pub last_use : Option ℕ
   pub bound : List ResRange
+  pub words : Option Span
 
 abbrev pub verdict_by : State → Option Issued → Option Refusal
 verdict_by s None = None
 verdict_by s (Some i) = verdict_in s i
 
-abbrev pub planned_by : State → Option Issued → Planned
-planned_by s i = record { verdict = verdict_by s i; last_use = use_by s i; bound = bound_by s i }
+-- ---- where token words stand
+
+-- how many bytes the record of a call takes
+abbrev pub record_length : Issued → ℕ
+record_length i = 8 + body_length i.call
+
+-- where in the input what stands behind the records of the first n calls begins
+abbrev pub place_behind : List Issued → ℕ → ℕ
+place_behind log n = 8 + sum_by record_length (take n log)
+
+-- where the record of call n begins, from 1
+abbrev pub place_of : List Issued → ℕ → ℕ
+place_of log zero = 8
+place_of log (suc n) = place_behind log n
+
+-- where token words stand in a record that begins here: behind its head and the shader's id
+abbrev pub span_in : ℕ → Option (List ℕ) → Option Span
+span_in at None = None
+span_in at (Some words) = Some (record { start = at + 12; len = length words })
+
+abbrev pub words_unless : ℕ → Issued → Option Refusal → Option Span
+words_unless at i (Some why) = None
+words_unless at i None = span_in at (token_words i.call)
+
+abbrev pub words_by : ℕ → State → Option Issued → Option Span
+words_by at s None = None
+words_by at s (Some i) = words_unless at i (verdict_in s i)
+
+-- ---- all that is planned
+
+-- what is planned of a call whose record begins here
+abbrev pub planned_by : ℕ → State → Option Issued → Planned
+planned_by at s i = record { verdict = verdict_by s i; last_use = use_by s i; bound = bound_by s i; words = words_by at s i }
 
 -- what is planned of call n, from 1
 abbrev pub planned : List Issued → ℕ → Planned
-planned log n = planned_by (before_call log n) (call_at log n)
+planned log n = planned_by (place_of log n) (before_call log n) (call_at log n)
 
 -- what is planned of the first n calls
 unfoldable pub plan_of : List Issued → ℕ → List Planned

@@ -1,10 +1,18 @@
 use dx_types::{CallNo, Refusal};
 
+/// Where the token words of a shader stand in the input, in bytes.
+#[derive(Clone, Copy, Debug, PartialEq, Eq)]
+pub(crate) struct Words {
+    pub(crate) start: u32,
+    pub(crate) len: u32,
+}
+
 /// What is planned of a call. Its ranges are those of the plan from `start` to just before `end`.
 #[derive(Clone, Copy, Debug, PartialEq, Eq)]
 pub(crate) struct Entry {
     pub(crate) verdict: Option<Refusal>,
     pub(crate) last_use: Option<CallNo>,
+    pub(crate) words: Option<Words>,
     pub(crate) start: u32,
     pub(crate) end: u32,
 }

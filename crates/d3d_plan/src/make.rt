@@ -1,5 +1,7 @@
-ghost use Rattle.std.specs.Prelude.{◌≡◌, length, IfErr, IfOk, OnOk};
+ghost use Rattle.std.specs.Prelude.{◌≡◌, ◌<◌, ◌^◌, length, IfErr, IfOk, IsTrue, OnOk};
+ghost use Rattle.call_log.specs.Body.{call_of, fits};
 ghost use Rattle.call_log.specs.Grammar.{calls_of};
+ghost use Rattle.call_log.specs.Put.{body_length};
 ghost use Rattle.d3d_plan.specs.Ends.{EndsAt, IsPlayable};
 ghost use Rattle.d3d_plan.specs.Planned.{plan_of};
 
@@ -32,7 +34,8 @@ fn plan_calls(alloc: Global, log: &Log<'_>) -> Result<Plan, AllocError>
         let Some(item) = log.item(i + 1) else {
             unreachable!();
         };
-        planner.plan_call(i + 1, item.context, &item.call())?;
+        says_its_length(item.kind, item.body);
+        planner.plan_call(alloc, i + 1, item.at, item.context, &item.call())?;
     }
     let Planner {
         entries,
@@ -41,4 +44,14 @@ fn plan_calls(alloc: Global, log: &Log<'_>) -> Result<Plan, AllocError>
         uses: _,
     } = planner;
     Ok(Plan::new(entries, ranges))
+}
+
+// A record's body is as long as its call says.
+fn says_its_length(kind: u16, body: &[u8])
+    requires whole { IsTrue (fits kind body.now) }
+    requires small { length body.now < 2 ^ 32 }
+    ensures { body_length (call_of kind body.now) ≡ length body.now }
+{
+    let _kind = kind;
+    let _body = body;
 }

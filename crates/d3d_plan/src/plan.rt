@@ -1,11 +1,11 @@
-ghost use Rattle.std.specs.Prelude.{◌&&◌, nat_le, ◌≡◌, ◌-◌, ◌≤◌, List, [], length, None, Some, slice_get};
+ghost use Rattle.std.specs.Prelude.{◌&&◌, nat_le, ◌≡◌, ◌-◌, ◌≤◌, List, [], length, Some, slice_get};
 ghost use Rattle.std.specs.List.{All};
 ghost use Rattle.d3d_plan.specs.Planned.{Planned};
-ghost use Rattle.d3d_plan.specs.Shown.{IsWithin, shown};
+ghost use Rattle.d3d_plan.specs.Shown.{IsWithin, shown, span_of};
 ghost use Rattle.std.specs.Option.{option_map};
 ghost use Rattle.d3d_plan.specs.Verdicts.{refusal_of};
 
-use crate::entry::Entry;
+use crate::entry::{Entry, Words};
 use dx_types::{CallNo, Refusal, ResRange, Span};
 use std::marker::Model;
 
@@ -14,6 +14,15 @@ use std::marker::Model;
 pub enum Verdict {
     Go,
     Refused(Refusal),
+}
+
+fn span_of(words: Words) -> Span
+    ensures { result ≡ span_of words }
+{
+    Span {
+        start: u64::from(words.start),
+        len: u64::from(words.len),
+    }
 }
 
 /// The plan of a log. A clause sees what is planned of each call, in order.
@@ -92,12 +101,13 @@ impl Plan {
         &[]
     }
 
-    /// The token words of the shader that call n creates. No shader can be created yet.
+    /// Where in the input the token words of the shader stand that call n creates; None for other calls, and where it is
+    /// refused.
     pub fn shader_words(&self, n: CallNo) -> Option<Span>
         requires first { 1 ≤ n }
         requires last { n ≤ length self.now }
-        ensures { result ≡ None }
+        ensures { Some result ≡ option_map (λ (p : Planned). p.words) (slice_get self.now (n - 1)) }
     {
-        None
+        self.entries[(n - 1) as usize].words.map(span_of)
     }
 }

@@ -62,14 +62,14 @@ fn is_draw(call: &Call<'_>) -> bool
     matches!(call, Call::Draw { .. })
 }
 
-/// Whether the call is not built yet: it creates a shader, or a deferred context would record it.
+/// Whether the call is not built yet: a deferred context would record it.
 fn is_unbuilt(context: u16, call: &Call<'_>) -> bool
     ensures { result ≡ is_unbuilt (record { context = context; call = call_view call.now }) }
 {
     match call {
-        Call::CreateShader { .. } => true,
         Call::Buffer { .. }
         | Call::View { .. }
+        | Call::CreateShader { .. }
         | Call::Query { .. }
         | Call::Destroy { .. }
         | Call::MapRead { .. }

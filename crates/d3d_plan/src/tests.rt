@@ -1,6 +1,6 @@
 use super::*;
 use call_log::{put_end, put_header, read_log};
-use dx_types::{CallNo, Refusal, ResRange};
+use dx_types::{CallNo, Refusal, ResRange, Span};
 use std::alloc::Global;
 use std::test::Fail;
 
@@ -120,6 +120,93 @@ fn uses_and_ids(rt: HostRuntime) -> Result<(), Fail> {
     Ok(())
 }
 
+/// The token words of a shader of one thread that does nothing, behind its id.
+const SHADER: [u32; 7] = [1, 1, 6, 0x401, 1, 1, 1];
+
+// What a plan says of a creation: why it is refused, and where the token words stand.
+fn makes(plan: &Plan, n: CallNo) -> Option<(Verdict, Option<Span>)> {
+    if plan.has(n) {
+        return Some((plan.verdict(n), plan.shader_words(n)));
+    }
+    None
+}
+
+// The token words of a creation that goes stand behind its record's head and the id; a shader that is set is in use.
+#[test]
+fn shaders(rt: HostRuntime) -> Result<(), Fail> {
+    let rows: [Row; 11] = [
+        (51, 0, &[], None),
+        (3, 0, &SHADER, None),
+        (3, 0, &SHADER, None),
+        (3, 0, &[2, 1], None),
+        (16, 0, &[1], None),
+        (5, 0, &[3, 1], None),
+        (32, 0, &[1, 1, 1], None),
+        (16, 0, &[0], None),
+        (5, 0, &[3, 1], None),
+        (3, 0, &SHADER, None),
+        (32, 0, &[1, 1, 1], None),
+    ];
+    let plan = plan_rows(rt.alloc(), &rows)?.ok().ok_or("planned")?;
+    let wants = [
+        (1, None, None),
+        (2, None, Some(Span { start: 28, len: 24 })),
+        (3, Some(Refusal::IdInUse), None),
+        (4, Some(Refusal::BadShader), None),
+        (5, None, None),
+        (6, Some(Refusal::IdInUse), None),
+        (7, None, None),
+        (8, None, None),
+        (9, None, None),
+        (
+            10,
+            None,
+            Some(Span {
+                start: 192,
+                len: 24,
+            }),
+        ),
+        (11, Some(Refusal::BadShader), None),
+    ];
+    for (n, why, words) in wants {
+        let verdict = why.map_or(Verdict::Go, Verdict::Refused);
+        assert_eq!(rt; makes(&plan, n), Some((verdict, words)), "{n}");
+    }
+    Ok(())
+}
+
+// A dispatch binds no more of a constant than its buffer has, then the views, and the predicate's word; an indirect one binds
+// its counts before them.
+#[test]
+fn dispatches(rt: HostRuntime) -> Result<(), Fail> {
+    let rows: [Row; 13] = [
+        (1, 0, &[1, 32, 0, 1, 0, 0], Some(b"")),
+        (1, 0, &[2, 64, 0, 2, 1, 0], Some(b"")),
+        (1, 0, &[3, 64, 0, 4, 5, 0], Some(b"")),
+        (2, 0, &[1, 2, 0, 0, 0, 4, 4], None),
+        (2, 0, &[2, 3, 1, 0, 0, 0, 2], None),
+        (3, 0, &SHADER, None),
+        (16, 0, &[1], None),
+        (17, 0, &[3, 1], None),
+        (18, 0, &[15, 1], None),
+        (19, 0, &[7, 2], None),
+        (38, 0, &[2, 3, 60, 1], None),
+        (33, 0, &[3, 52], None),
+        (32, 0, &[1, 1, 1], None),
+    ];
+    let plan = plan_rows(rt.alloc(), &rows)?.ok().ok_or("planned")?;
+    let bound = [
+        range(3, 52, 64),
+        range(1, 0, 32),
+        range(2, 16, 32),
+        range(3, 0, 8),
+        range(3, 60, 64),
+    ];
+    assert_eq!(rt; says(&plan, 12), Some((Verdict::Go, None, &bound[..])));
+    assert_eq!(rt; says(&plan, 13), Some((Verdict::Go, None, &bound[1..])));
+    Ok(())
+}
+
 // A draw is named before a call that is not built, wherever it stands.
 #[test]
 fn ends(rt: HostRuntime) -> Result<(), Fail> {
@@ -127,6 +214,7 @@ fn ends(rt: HostRuntime) -> Result<(), Fail> {
     let draw: Row = (70, 5, &[9], None);
     let flush: Row = (51, 0, &[], None);
     let recorded: Row = (20, 16, &[], None);
+    let finish: Row = (52, 1, &[1], None);
     let wrong: Row = (20, 17, &[], None);
     let cases = [
         (
@@ -143,8 +231,13 @@ fn ends(rt: HostRuntime) -> Result<(), Fail> {
         ),
         (
             [flush, shader, recorded],
-            Some(PlanEnd::NotBuilt { n: 2, kind: 3 }),
+            Some(PlanEnd::NotBuilt { n: 3, kind: 20 }),
         ),
+        (
+            [shader, finish, recorded],
+            Some(PlanEnd::NotBuilt { n: 2, kind: 52 }),
+        ),
+        ([shader, shader, flush], None),
         ([flush, wrong, flush], None),
     ];
     for (rows, want) in cases {
