@@ -1,9 +1,7 @@
 -- What a plan says of a call of a log, as the machine asks it.
-use Rattle.std.proofs.Common.{◌≡◌, ℕ, zero, suc, ◌+◌, ◌-◌, ◌<◌, List, [], ◌∷◌, ◌++◌, length, Option, Some, refl, sym, ap, subst, ◌∙◌, arith, inl, inr}
+use Rattle.std.proofs.Common.{◌≡◌, ℕ, zero, suc, ◌+◌, ◌-◌, ◌<◌, List, [], ◌∷◌, ◌++◌, length, Option, Some, refl, sym, ap, subst, ◌∙◌, arith}
 use Rattle.std.specs.Prelude.{slice_get}
 use Rattle.std.specs.Option.{option_map, option_to_list}
-use Rattle.std.proofs.lemmas.Bool.{cases_lt}
-use Rattle.std.proofs.lemmas.List.{length-append}
 use Rattle.std.proofs.Math.Numerals.{add-one}
 use Rattle.dx_types.specs.declared.refusal.Refusal.{Refusal}
 use Rattle.dx_types.specs.declared.reply.Reply.{Reply}
@@ -13,36 +11,10 @@ use Rattle.d3d_model.specs.D3dState.{Objects, Memory}
 use Rattle.d3d_model.specs.InOrder.{after_calls, before_call, call_at}
 use Rattle.d3d_model.specs.ReplyText.{replies_upto}
 use Rattle.d3d_checks.specs.Accepted.{is_unbuilt, is_draw}
-use Rattle.d3d_plan.specs.Planned.{Planned, planned, plan_of, verdict_by}
+use Rattle.d3d_plan.specs.Planned.{Planned, plan_of, verdict_by}
+use Rattle.d3d_plan.proofs.Entries.{entry_of}
 use Rattle.d3d_plan.specs.Ends.{IsPlayable}
 use Rattle.d3d_ref.specs.Stands.{Stands, Judged}
-
-pub length-plan : (log : List Issued) (n : ℕ) → length (plan_of log n) ≡ n
-unfolding plan_of
-length-plan log zero = refl
-length-plan log (suc n) = length-append (plan_of log n) (planned log (suc n) ∷ []) ∙ omega (arith, length-plan log n)
-
-get_front : {X : Type 0} (xs ys : List X) (k : ℕ) → k < length xs → slice_get (xs ++ ys) k ≡ slice_get xs k
-get_front [] ys k h = absurd (omega arith)
-get_front (x ∷ xs) ys zero h = refl
-get_front (x ∷ xs) ys (suc k) h = get_front xs ys k (omega arith)
-
-get_last : {X : Type 0} (xs : List X) (y : X) → slice_get (xs ++ y ∷ []) (length xs) ≡ Some y
-get_last [] y = refl
-get_last (x ∷ xs) y = get_last xs y
-
--- what is planned of a call
-pub planned_at : (log : List Issued) (count k : ℕ) → k < count → slice_get (plan_of log count) k ≡ Some (planned log (suc k))
-unfolding plan_of
-planned_at log zero k h = absurd (omega arith)
-planned_at log (suc n) k h = elim (cases_lt k n) [
-  | inl earlier ↦ get_front (plan_of log n) (planned log (suc n) ∷ []) k (omega (arith, length-plan log n)) ∙ planned_at log n k earlier
-  | inr last ↦
-      let e : k ≡ n = omega arith in
-      ap (slice_get (plan_of log n ++ planned log (suc n) ∷ [])) (e ∙ sym (length-plan log n))
-      ∙ get_last (plan_of log n) (planned log (suc n))
-      ∙ ap (λ (j : ℕ). Some (planned log (suc j))) (sym e)
-]
 
 some_back : {X : Type 0} (x y : X) → Some x ≡ Some y → x ≡ y
 some_back x y e = cc
@@ -68,7 +40,7 @@ judged frames plan i refusal same h playable said =
     let log = calls_of frames in
     let place : i + 1 - 1 ≡ i = omega arith in
     let is : refusal ≡ verdict_by (after_calls log i) (slice_get log i) =
-    some_back refusal _ (said ∙ ap (λ (k : ℕ). option_map verdict_of (slice_get plan k)) place ∙ ap (λ (p : List Planned). option_map verdict_of (slice_get p i)) same ∙ ap (option_map verdict_of) (planned_at log (length frames) i h)) in
+    some_back refusal _ (said ∙ ap (λ (k : ℕ). option_map verdict_of (slice_get plan k)) place ∙ ap (λ (p : List Planned). option_map verdict_of (slice_get p i)) same ∙ ap (option_map verdict_of) (entry_of log (length frames) i h)) in
     subst (λ (n : ℕ). Judged log n refusal) (sym (add-one i)) (record {
       built = λ c there. let f = framed frames i c there in ap is_unbuilt (sym f.same) ∙ playable.1 (suc i) f.frame f.found;
       no_draw = λ c there. let f = framed frames i c there in ap (λ (d : Issued). is_draw d.call) (sym f.same) ∙ playable.0 (suc i) f.frame f.found;

@@ -16,7 +16,7 @@ use Rattle.d3d_model.specs.Verdict.{verdict, call_checks, is_too_long, is_wrong_
 use Rattle.d3d_model.specs.InOrder.{State, accepted, unless_refused, verdict_in, after_call, after_calls, before_call, call_at}
 use Rattle.d3d_model.specs.ReplyText.{none_pending, answer, answer_or_still, reply_unless, reply_to, reply_at}
 use Rattle.d3d_model.proofs.Maps.{get-empty}
-use Rattle.d3d_checks.specs.Accepted.{Accepted, is_shader, is_draw, is_recorded, is_unbuilt}
+use Rattle.d3d_checks.specs.Accepted.{Accepted, is_draw, is_unbuilt}
 use Rattle.d3d_memory.specs.Meeting.{met_by}
 use Rattle.d3d_ref.specs.Stands.{Stands}
 
@@ -58,10 +58,6 @@ is_first : (o : Objects) (past : Past) (i : Issued) → is_wrong_at (place_of i.
 is_first o past i e =
     ap (λ b. if b then Some WrongContext else first_failed (call_checks o past i.context i.call ++ (is_too_long o i.context (place_of i.call), TooMuchMemory) ∷ [])) e
 
-both_false : (a b : Bool) → a || b ≡ false → (a ≡ false) × (b ≡ false)
-both_false true b e = absurd cc
-both_false false b e = (refl, e)
-
 immediate : (a b : Bool) → not a && not b ≡ false → (b ≡ true → ⊥) → a ≡ true
 immediate true b e h = refl
 immediate false true e h = absurd (h refl)
@@ -70,20 +66,14 @@ immediate false false e h = absurd cc
 -- a call that is built and accepted is on the immediate context
 pub on_immediate : (s : State) (i : Issued) → is_unbuilt i ≡ false → None ≡ verdict_in s i → i.context ≡ 0
 on_immediate s i built v =
-    let recorded = both_false (is_shader i.call) (is_recorded i) built in
-    eqb-true i.context 0 (immediate (i.context == 0) (is_wrong_at (place_of i.call) i.context) recorded.1 (λ e. refused (is_first s.objects s.past i e)))
+    eqb-true i.context 0 (immediate (i.context == 0) (is_wrong_at (place_of i.call) i.context) built (λ e. refused (is_first s.objects s.past i e)))
   where
     refused : verdict_in s i ≡ Some WrongContext → ⊥
     refused e = cc
 
-not_either : (a b : Bool) → a ≡ false → b ≡ false → not (a || b) ≡ true
-not_either true b e f = absurd cc
-not_either false true e f = absurd cc
-not_either false false e f = refl
-
 pub is_accepted : (s : State) (i : Issued) (o : Objects) (m : Memory) → Stands o m s → is_unbuilt i ≡ false → is_draw i.call ≡ false → None ≡ verdict_in s i → Accepted o i.call
 is_accepted s i o m h built no_draw v = record {
-  built = not_either (is_shader i.call) (is_draw i.call) (both_false (is_shader i.call) (is_recorded i) built).0 no_draw;
+  built = ap not no_draw;
   past = s.past;
   passes =
       ap (λ (p : Objects). verdict p s.past (record { context = 0; call = i.call })) h.objects

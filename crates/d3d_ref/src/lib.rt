@@ -8,4 +8,6 @@ pub use machine::Machine;
 pub use run::reference;
 
 #[cfg(test)]
+mod dispatch_tests;
+#[cfg(test)]
 mod tests;

@@ -2,6 +2,7 @@ ghost use Rattle.std.specs.Prelude.{◌≡◌, IfOk, OnOk};
 ghost use Rattle.call_log.specs.Grammar.{calls_of};
 ghost use Rattle.call_log.specs.View.{call_view};
 ghost use Rattle.d3d_checks.specs.Accepted.{Accepted};
+ghost use Rattle.d3d_memory.specs.Limits.{InLimits};
 ghost use Rattle.d3d_memory.specs.Meeting.{met_by};
 ghost use Rattle.d3d_model.specs.Effect.{objects_after};
 ghost use Rattle.d3d_model.specs.InOrder.{after_calls, before_call, initial};
@@ -12,7 +13,7 @@ ghost use Rattle.d3d_ref.specs.Stands.{Judged, Stands};
 ghost use Rattle.d3d_state.specs.Meaning.{objects_of};
 
 use call_log::{Call, Log};
-use d3d_checks::apply;
+use d3d_checks::{apply, decode_created};
 use d3d_memory::{Memory, accept, answer};
 use d3d_state::Objects;
 use dx_types::{CallNo, Refusal, Reply};
@@ -54,6 +55,8 @@ impl Machine {
             Some(item) => match refusal {
                 Some(why) => Ok(Some(Reply::Refused { n, why })),
                 None => {
+                    // What a log keeps within limits is learnt with its count.
+                    let _count = log.count();
                     let reply = self.execute(alloc, n, &item.call())?;
                     Ok(reply)
                 }
@@ -68,14 +71,16 @@ impl Machine {
         n: CallNo,
         call: &Call<'_>,
     ) -> Result<Option<Reply>, AllocError>
-        requires { Accepted (objects_of self.old.objects) (call_view call.now) }
+        requires accepted { Accepted (objects_of self.old.objects) (call_view call.now) }
+        requires limits { InLimits self.old.memory }
         ensures reply { (past : Past) → IfOk result (λ reply. reply ≡ answer n (met_by (objects_of self.old.objects) self.old.memory past) (call_view call.now)) }
         ensures objects { OnOk result (objects_of self.new.objects ≡ objects_after n (objects_of self.old.objects) 0 (call_view call.now)) }
         ensures memory { OnOk result (self.new.memory ≡ memory_after n (objects_of self.old.objects) self.old.memory 0 (call_view call.now)) }
     {
         let reply = answer(alloc, n, &self.memory, &self.objects, call)?;
         accept(&mut self.memory, &self.objects, 0, call)?;
-        apply(&mut self.objects, n, call)?;
+        let shader = decode_created(alloc, n, call)?;
+        apply(&mut self.objects, n, call, shader)?;
         Ok(reply)
     }
 }

@@ -36,7 +36,7 @@ static LOGS: [(&str, &str); 7] = [
 ];
 
 // What a run of a log of these lines says, or why it isn't run.
-fn said(alloc: Global, lines: &str) -> Result<Result<String, PlanEnd>, Fail> {
+pub(crate) fn said(alloc: Global, lines: &str) -> Result<Result<String, PlanEnd>, Fail> {
     let text = format!(in alloc; "d3l1 1\n{lines}end\n")?;
     if text.len() > 65_536 {
         return Err(Fail::from("a long log"));

@@ -3,7 +3,8 @@ use Rattle.call_log.specs.Grammar.{calls_of}
 use Rattle.d3d_model.specs.InOrder.{after_calls}
 use Rattle.d3d_model.specs.ReplyText.{none_pending, reply_at, replies_upto}
 use Rattle.d3d_plan.specs.Planned.{Planned}
-use Rattle.d3d_ref.proofs.Judgements.{judged, length-plan, next_said}
+use Rattle.d3d_plan.proofs.Entries.{length-plan_of}
+use Rattle.d3d_ref.proofs.Judgements.{judged, next_said}
 use Rattle.d3d_ref.proofs.run.play_all.Goals as goal
 
 pub calls-init : goal.calls-init
@@ -12,7 +13,7 @@ calls-init c = record { stands = record { objects = c.new-machine.ensures.object
 
 pub verdict-requires-clause-last : goal.verdict-requires-clause-last
 verdict-requires-clause-last c =
-    omega (arith, ap (λ (l : List Planned). length l) c.requires.plan, length-plan (calls_of c.args.log.now.frames) (length c.args.log.now.frames), c.count-i-end.ensures.count, c.calls-test.true)
+    omega (arith, ap (λ (l : List Planned). length l) c.requires.plan, length-plan_of (calls_of c.args.log.now.frames) (length c.args.log.now.frames), c.count-i-end.ensures.count, c.calls-test.true)
 
 pub play-requires-clause-judged : goal.play-requires-clause-judged
 play-requires-clause-judged c =

@@ -1,4 +1,8 @@
-use Rattle.std.proofs.Common.{sym, ◌∙◌, refl}
+use Rattle.std.proofs.Common.{◌+◌, ◌≤◌, length, sym, subst, ◌∙◌, refl, arith}
+use Rattle.d3d_model.specs.D3dState.{Memory}
+use Rattle.d3d_memory.specs.Limits.{InLimits}
+use Rattle.d3d_memory.proofs.Bounded.{log_in_limits}
+use Rattle.d3d_plan.proofs.Records.{numbered}
 use Rattle.call_log.specs.Call.{Issued}
 use Rattle.call_log.specs.View.{call_view, frame_view}
 use Rattle.call_log.specs.Grammar.{calls_of}
@@ -31,8 +35,8 @@ returns-in-Some-refusal-clause-stands c =
     steps.stands_refused (calls_of c.args.log.now.frames) c.args.n i c.in-Some-refusal.why (objects_of c.args.self.now.objects) c.args.self.now.memory there
     (sym c.in-Some-refusal.is ∙ c.requires.judged.verdict i there) c.requires.stands
 
-pub execute-requires : goal.execute-requires
-execute-requires c =
+pub execute-requires-clause-accepted : goal.execute-requires-clause-accepted
+execute-requires-clause-accepted c =
     let f = frame_view c.in-Some.item in
     let i : Issued = record { context = f.context; call = call_view c.call.result } in
     let there = call_some c.args.log.now.frames c.args.n f (call_view c.call.result) c.in-Some.ensures.record c.call.ensures in
@@ -55,3 +59,9 @@ returns-in_ok-reply-in-None-refusal-clause-stands c =
     steps.stands_accepted (calls_of c.args.log.now.frames) c.args.n i (objects_of c.args.self.now.objects) (objects_of c.execute.new.self.objects) c.args.self.now.memory c.execute.new.self.memory there
     (c.requires.judged.built i there) (sym c.in-None-refusal.is ∙ c.requires.judged.verdict i there) c.requires.stands
     c.in_ok-reply-in-None-refusal.ensures.objects c.in_ok-reply-in-None-refusal.ensures.memory
+
+pub execute-requires-clause-limits : goal.execute-requires-clause-limits
+execute-requires-clause-limits c =
+    let log = c.args.log.now in
+    let within : c.args.n ≤ length log.frames + 1 = omega (arith, numbered log.frames c.args.n (frame_view c.in-Some.item) (sym c.in-Some.ensures.record)) in
+    subst (λ (m : Memory). InLimits m) (sym c.requires.stands.memory) (log_in_limits log.bytes log.frames c.args.n c.count-_count.ensures.log c.count-_count.ensures.small within)
