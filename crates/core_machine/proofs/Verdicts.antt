@@ -12,12 +12,13 @@ use Rattle.d3d_model.specs.ReplyText.{none_pending, answer, answer_or_still, rep
 use Rattle.d3d_model.proofs.Maps.{get-empty}
 use Rattle.d3d_plan.specs.Planned.{Planned}
 use Rattle.d3d_ref.specs.Stands.{Judged}
-use Rattle.d3d_ref.proofs.Judgements.{judged, length-plan, verdict_of}
+use Rattle.d3d_ref.proofs.Judgements.{judged, verdict_of}
+use Rattle.d3d_plan.proofs.Entries.{length-plan_of}
 use Rattle.core_machine.specs.Commands.{writes, command_in, makes_command}
 use Rattle.core_machine.specs.Keeping.{IsPlanned}
 
 pub plan_length : (frames : List Frame) (plan : List Planned) → IsPlanned frames plan → length plan ≡ length frames
-plan_length frames plan p = ap (λ (l : List Planned). length l) p.planned ∙ length-plan (calls_of frames) (length frames)
+plan_length frames plan p = ap (λ (l : List Planned). length l) p.planned ∙ length-plan_of (calls_of frames) (length frames)
 
 -- call n may be played by its verdict
 pub judged_at : (frames : List Frame) (plan : List Planned) (n : ℕ) (refusal : Option Refusal) → IsPlanned frames plan → 1 ≤ n → n ≤ length frames

@@ -64,4 +64,4 @@ pub execute-requires-clause-limits : goal.execute-requires-clause-limits
 execute-requires-clause-limits c =
     let log = c.args.log.now in
     let within : c.args.n ≤ length log.frames + 1 = omega (arith, numbered log.frames c.args.n (frame_view c.in-Some.item) (sym c.in-Some.ensures.record)) in
-    subst (λ (m : Memory). InLimits m) (sym c.requires.stands.memory) (log_in_limits log.bytes log.frames c.args.n c.count-_count.ensures.log c.count-_count.ensures.small within)
+    subst (λ (m : Memory). InLimits m) (sym c.requires.stands.memory) (log_in_limits log.bytes log.frames c.args.n c.count-count.ensures.log c.count-count.ensures.small within)
