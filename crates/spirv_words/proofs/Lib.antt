@@ -1,2 +1,7 @@
 mod Examples
 mod Refused
+pub mod Lists
+pub mod Places
+pub mod Cutting
+pub mod Walking
+pub mod Edges

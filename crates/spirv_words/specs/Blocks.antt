@@ -1,5 +1,7 @@
 -- The blocks of a function (SPIR-V 1.6, section 2.11).
 use Rattle.std.specs.Prelude.{if◌then◌else◌, Bool, true, false, not, ◌&&◌, ◌||◌, List, ◌∷◌}
+use Rattle.spirv_words.specs.declared.merges.Merge.{Merge}
+use Rattle.spirv_words.specs.declared.merges.Merge.TheVariants.{NoMerge, OfSelection, OfLoop}
 use Rattle.spirv_words.specs.Op.{Op}
 use Rattle.spirv_words.specs.Op as op
 use Rattle.spirv_words.specs.History.{in_function, block_is_open}
@@ -11,11 +13,6 @@ has_block (op.Function t r c f ∷ h) = false
 has_block _ = true
 
 -- the merge that waits for its branch
-pub data Merge : Type 0 where
-  NoMerge : Merge
-  OfSelection : Merge
-  OfLoop : Merge
-
 abbrev pub pending : List Op → Merge
 pending (op.SelectionMerge m c ∷ h) = OfSelection
 pending (op.LoopMerge m n c ∷ h) = OfLoop

@@ -13,3 +13,9 @@ pub mod Sections
 pub mod Blocks
 pub mod FirstBad
 pub mod Made
+pub mod Latest
+pub mod Kept
+pub mod Edges
+pub mod Known
+pub mod Rules
+pub mod Reading

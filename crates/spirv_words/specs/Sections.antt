@@ -1,19 +1,12 @@
 -- The order of the sections (SPIR-V 1.6, section 2.4).
 use Rattle.std.specs.Prelude.{ℕ, ◌==◌, if◌then◌else◌, Bool, true, false, not, ◌&&◌, nat_lt, nat_le, List, [], ◌∷◌}
+use Rattle.spirv_words.specs.declared.sections.Section.{Section}
+use Rattle.spirv_words.specs.declared.sections.Section.TheVariants.{Capabilities, Model, Entry, Modes, Decorations, Types, Body}
 use Rattle.spirv_words.specs.Op.{Op}
 use Rattle.spirv_words.specs.Op as op
 use Rattle.spirv_words.specs.History.{in_function}
 
-pub data Section : Type 0 where
-  Capabilities : Section
-  Model : Section
-  Entry : Section
-  Modes : Section
-  Decorations : Section
-  -- types, constants and module variables
-  Types : Section
-  Body : Section
-
+-- the place of a section
 abbrev pub rank : Section → ℕ
 rank Capabilities = 0
 rank Model = 1

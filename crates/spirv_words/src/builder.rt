@@ -1,14 +1,20 @@
 // A module's words, put together instruction by instruction.
 
-ghost use Rattle.std.specs.Prelude.{◌≡◌, ◌<◌, List, ℕ, [], ◌∷◌, ◌++◌, length, is_ok, if◌then◌else◌};
-ghost use Rattle.spirv_words.specs.Words.{spelled};
+ghost use Rattle.std.specs.Prelude.{◌≡◌, ◌+◌, ◌^◌, ◌<◌, List, ℕ, [], ◌++◌, length, is_ok, if◌then◌else◌, IfOk, OnOk, Some, None};
+ghost use Rattle.spirv_words.specs.Words.{spelled, header};
+ghost use Rattle.spirv_words.specs.FirstBad.{first_bad};
+ghost use Rattle.spirv_words.specs.Reading.{IfBad};
 
+use crate::end::ModuleEnd;
+use crate::header::header;
+use crate::module::Module;
 use std::alloc::{AllocError, Global};
 use std::marker::Model;
 
 /// The words of the instructions that were pushed, without the header. A clause sees the list of them.
 #[derive(Drop)]
 pub struct Builder {
+    alloc: Global,
     words: Vec<u32>,
 }
 
@@ -23,6 +29,7 @@ impl Builder {
         ensures { result ≡ [] }
     {
         Builder {
+            alloc,
             words: Vec::new(alloc),
         }
     }
@@ -42,10 +49,23 @@ impl Builder {
         Ok(())
     }
 
-    /// The words of the instructions so far.
-    pub fn words(&self) -> &[u32]
-        ensures { result.now ≡ self.now }
+    /// How many words the instructions so far have.
+    pub fn len(&self) -> usize
+        ensures { result ≡ length self.now }
     {
-        self.words.as_slice()
+        self.words.len()
+    }
+
+    /// The module of a header with this bound and the instructions, as `read_module` reads their words.
+    pub fn finish(self, bound: u32) -> Result<Module, ModuleEnd>
+        requires { 5 + length self < 2 ^ 32 }
+        ensures words { IfOk result (λ read. read ≡ header bound ++ self) }
+        ensures well_formed { OnOk result (first_bad (header bound ++ self) ≡ None) }
+        ensures first_bad_word { IfBad result (λ fault. first_bad (header bound ++ self) ≡ Some fault) }
+    {
+        let mut words = Vec::new(self.alloc);
+        words.extend_from_slice(&header(bound))?;
+        words.extend_from_slice(self.words.as_slice())?;
+        Module::from_words(self.alloc, words)
     }
 }

@@ -2,6 +2,7 @@
 
 ghost use Rattle.std.specs.Prelude.{◌≡◌};
 ghost use Rattle.spirv_words.specs.FirstBad.{takes_header_word, has_header_word, header_places, header_fault};
+ghost use Rattle.spirv_words.specs.Words.{header};
 
 use crate::fault::{ModuleFault, ModuleKind};
 
@@ -51,4 +52,11 @@ pub fn find_header_fault(words: &[u32]) -> Option<ModuleFault>
             word: *at,
             kind: ModuleKind::Header,
         })
+}
+
+/// The header of a module with this bound.
+pub fn header(bound: u32) -> [u32; 5]
+    ensures { result ≡ header bound }
+{
+    [MAGIC, VERSION, 0, bound, 0]
 }

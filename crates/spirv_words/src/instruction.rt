@@ -8,22 +8,22 @@ ghost use Rattle.spirv_words.specs.View.{shown};
 use crate::code::Opcode;
 use crate::op::Op;
 
-// The instruction with these fields as its operands, and where one more is named the rest of them; None where the
-// operands are too few or too many.
+// The instruction with these fields as its operands, and behind `..` the rest of them; None where the operands are
+// too few or too many.
 macro_rules! with {
-    ($operands:ident, $name:ident { $($field:ident),* }) => {
+    ($operands:ident: $name:ident $($field:ident)*) => {
         match $operands {
             [$($field),*] => Some(Op::$name { $($field: *$field),* }),
             _ => None,
         }
     };
-    ($operands:ident, $name:ident { $($field:ident),* ; $rest:ident }) => {
+    ($operands:ident: $name:ident $($field:ident)* ..$rest:ident) => {
         match $operands {
             [$($field),*, $rest @ ..] => Some(Op::$name { $($field: *$field),*, $rest }),
             _ => None,
         }
     };
-    ($operands:ident, $name:ident($code:ident) { $($field:ident),* }) => {
+    ($operands:ident: $name:ident($code:ident) $($field:ident)*) => {
         match $operands {
             [$($field),*] => Some(Op::$name { code: $code, $($field: *$field),* }),
             _ => None,
@@ -136,114 +136,42 @@ pub fn instruction(opcode: Opcode, operands: &[u32]) -> Option<Op<'_>>
     ensures { option_map shown result ≡ made_by opcode operands.now }
 {
     match opcode {
-        Opcode::Capability => with!(operands, Capability { capability }),
-        Opcode::MemoryModel => with!(operands, MemoryModel { addressing, model }),
+        Opcode::Capability => with!(operands: Capability capability),
+        Opcode::MemoryModel => with!(operands: MemoryModel addressing model),
         Opcode::EntryPoint =>
-            with!(operands, EntryPoint { model, function, name, name_end; interface }),
-        Opcode::ExecutionMode => with!(
-            operands,
-            ExecutionMode {
-                function,
-                mode,
-                x,
-                y,
-                z
-            }
-        ),
+            with!(operands: EntryPoint model function name name_end ..interface),
+        Opcode::ExecutionMode => with!(operands: ExecutionMode function mode x y z),
         Opcode::Decorate => decorate(operands),
         Opcode::MemberDecorate => member_decorate(operands),
-        Opcode::TypeVoid => with!(operands, TypeVoid { id }),
-        Opcode::TypeBool => with!(operands, TypeBool { id }),
-        Opcode::TypeInt => with!(operands, TypeInt { id, width, sign }),
-        Opcode::TypeVector => with!(
-            operands,
-            TypeVector {
-                id,
-                component,
-                count
-            }
-        ),
-        Opcode::TypeRuntimeArray => with!(operands, TypeRuntimeArray { id, element }),
-        Opcode::TypeStruct => with!(operands, TypeStruct { id; members }),
-        Opcode::TypePointer => with!(operands, TypePointer { id, class, pointee }),
-        Opcode::TypeFunction => with!(operands, TypeFunction { id, returned }),
-        Opcode::Constant => with!(
-            operands,
-            Constant {
-                result_type,
-                id,
-                value
-            }
-        ),
+        Opcode::TypeVoid => with!(operands: TypeVoid id),
+        Opcode::TypeBool => with!(operands: TypeBool id),
+        Opcode::TypeInt => with!(operands: TypeInt id width sign),
+        Opcode::TypeVector => with!(operands: TypeVector id component count),
+        Opcode::TypeRuntimeArray => with!(operands: TypeRuntimeArray id element),
+        Opcode::TypeStruct => with!(operands: TypeStruct id ..members),
+        Opcode::TypePointer => with!(operands: TypePointer id class pointee),
+        Opcode::TypeFunction => with!(operands: TypeFunction id returned),
+        Opcode::Constant => with!(operands: Constant result_type id value),
         Opcode::Variable => variable(operands),
-        Opcode::Function => with!(
-            operands,
-            Function {
-                result_type,
-                id,
-                control,
-                function_type
-            }
-        ),
-        Opcode::FunctionEnd => with!(operands, FunctionEnd {}),
-        Opcode::Load => with!(
-            operands,
-            Load {
-                result_type,
-                id,
-                pointer
-            }
-        ),
-        Opcode::Store => with!(operands, Store { pointer, value }),
+        Opcode::Function => with!(operands: Function result_type id control function_type),
+        Opcode::FunctionEnd => with!(operands: FunctionEnd),
+        Opcode::Load => with!(operands: Load result_type id pointer),
+        Opcode::Store => with!(operands: Store pointer value),
         Opcode::AccessChain => access_chain(operands),
-        Opcode::CompositeExtract => with!(
-            operands,
-            CompositeExtract {
-                result_type,
-                id,
-                composite,
-                index
-            }
-        ),
-        Opcode::Unary(code) => with!(operands, Unary(code) { result_type, id, a }),
-        Opcode::Binary(code) => with!(operands, Binary(code) { result_type, id, a, b }),
-        Opcode::Select => with!(
-            operands,
-            Select {
-                result_type,
-                id,
-                condition,
-                a,
-                b
-            }
-        ),
+        Opcode::CompositeExtract =>
+            with!(operands: CompositeExtract result_type id composite index),
+        Opcode::Unary(code) => with!(operands: Unary(code) result_type id a),
+        Opcode::Binary(code) => with!(operands: Binary(code) result_type id a b),
+        Opcode::Select => with!(operands: Select result_type id condition a b),
         Opcode::Atomic(code) =>
-            with!(operands, Atomic(code) { result_type, id, pointer, scope, order, value }),
-        Opcode::AtomicCompareExchange => with!(
-            operands,
-            AtomicCompareExchange {
-                result_type,
-                id,
-                pointer,
-                scope,
-                equal,
-                unequal,
-                value,
-                comparator
-            }
-        ),
-        Opcode::LoopMerge => with!(
-            operands,
-            LoopMerge {
-                merge,
-                next,
-                control
-            }
-        ),
-        Opcode::SelectionMerge => with!(operands, SelectionMerge { merge, control }),
-        Opcode::Label => with!(operands, Label { id }),
-        Opcode::Branch => with!(operands, Branch { label }),
-        Opcode::BranchConditional => with!(operands, BranchConditional { condition, yes, no }),
-        Opcode::Return => with!(operands, Return {}),
+            with!(operands: Atomic(code) result_type id pointer scope order value),
+        Opcode::AtomicCompareExchange => with!(operands: AtomicCompareExchange
+            result_type id pointer scope equal unequal value comparator),
+        Opcode::LoopMerge => with!(operands: LoopMerge merge next control),
+        Opcode::SelectionMerge => with!(operands: SelectionMerge merge control),
+        Opcode::Label => with!(operands: Label id),
+        Opcode::Branch => with!(operands: Branch label),
+        Opcode::BranchConditional => with!(operands: BranchConditional condition yes no),
+        Opcode::Return => with!(operands: Return),
     }
 }
