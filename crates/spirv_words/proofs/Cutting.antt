@@ -45,36 +45,36 @@ of_4 f s (a ∷ b ∷ c ∷ []) o e = cc
 of_4 f s (a ∷ b ∷ c ∷ d ∷ []) o e = let made : f a b c d ≡ o = cc in ap operands_of (sym made) ∙ s a b c d
 of_4 f s (a ∷ b ∷ c ∷ d ∷ z ∷ ws) o e = cc
 
-of_5 : (f : ℕ → ℕ → ℕ → ℕ → ℕ → Op) → ((a b c d e : ℕ) → operands_of (f a b c d e) ≡ a ∷ b ∷ c ∷ d ∷ e ∷ []) → (ws : List ℕ) (o : Op) → from_5 f ws ≡ Some o → operands_of o ≡ ws
+of_5 : (f : ℕ → ℕ → ℕ → ℕ → ℕ → Op) → ((a b c d i : ℕ) → operands_of (f a b c d i) ≡ a ∷ b ∷ c ∷ d ∷ i ∷ []) → (ws : List ℕ) (o : Op) → from_5 f ws ≡ Some o → operands_of o ≡ ws
 of_5 f s [] o e = cc
 of_5 f s (a ∷ []) o e = cc
 of_5 f s (a ∷ b ∷ []) o e = cc
 of_5 f s (a ∷ b ∷ c ∷ []) o e = cc
 of_5 f s (a ∷ b ∷ c ∷ d ∷ []) o e = cc
-of_5 f s (a ∷ b ∷ c ∷ d ∷ e ∷ []) o e = let made : f a b c d e ≡ o = cc in ap operands_of (sym made) ∙ s a b c d e
-of_5 f s (a ∷ b ∷ c ∷ d ∷ e ∷ z ∷ ws) o e = cc
+of_5 f s (a ∷ b ∷ c ∷ d ∷ i ∷ []) o e = let made : f a b c d i ≡ o = cc in ap operands_of (sym made) ∙ s a b c d i
+of_5 f s (a ∷ b ∷ c ∷ d ∷ i ∷ z ∷ ws) o e = cc
 
-of_6 : (f : ℕ → ℕ → ℕ → ℕ → ℕ → ℕ → Op) → ((a b c d e f : ℕ) → operands_of (f a b c d e f) ≡ a ∷ b ∷ c ∷ d ∷ e ∷ f ∷ []) → (ws : List ℕ) (o : Op) → from_6 f ws ≡ Some o → operands_of o ≡ ws
+of_6 : (f : ℕ → ℕ → ℕ → ℕ → ℕ → ℕ → Op) → ((a b c d i j : ℕ) → operands_of (f a b c d i j) ≡ a ∷ b ∷ c ∷ d ∷ i ∷ j ∷ []) → (ws : List ℕ) (o : Op) → from_6 f ws ≡ Some o → operands_of o ≡ ws
 of_6 f s [] o e = cc
 of_6 f s (a ∷ []) o e = cc
 of_6 f s (a ∷ b ∷ []) o e = cc
 of_6 f s (a ∷ b ∷ c ∷ []) o e = cc
 of_6 f s (a ∷ b ∷ c ∷ d ∷ []) o e = cc
-of_6 f s (a ∷ b ∷ c ∷ d ∷ e ∷ []) o e = cc
-of_6 f s (a ∷ b ∷ c ∷ d ∷ e ∷ f ∷ []) o e = let made : f a b c d e f ≡ o = cc in ap operands_of (sym made) ∙ s a b c d e f
-of_6 f s (a ∷ b ∷ c ∷ d ∷ e ∷ f ∷ z ∷ ws) o e = cc
+of_6 f s (a ∷ b ∷ c ∷ d ∷ i ∷ []) o e = cc
+of_6 f s (a ∷ b ∷ c ∷ d ∷ i ∷ j ∷ []) o e = let made : f a b c d i j ≡ o = cc in ap operands_of (sym made) ∙ s a b c d i j
+of_6 f s (a ∷ b ∷ c ∷ d ∷ i ∷ j ∷ z ∷ ws) o e = cc
 
-of_8 : (f : ℕ → ℕ → ℕ → ℕ → ℕ → ℕ → ℕ → ℕ → Op) → ((a b c d e f g i : ℕ) → operands_of (f a b c d e f g i) ≡ a ∷ b ∷ c ∷ d ∷ e ∷ f ∷ g ∷ i ∷ []) → (ws : List ℕ) (o : Op) → from_8 f ws ≡ Some o → operands_of o ≡ ws
+of_8 : (f : ℕ → ℕ → ℕ → ℕ → ℕ → ℕ → ℕ → ℕ → Op) → ((a b c d i j k l : ℕ) → operands_of (f a b c d i j k l) ≡ a ∷ b ∷ c ∷ d ∷ i ∷ j ∷ k ∷ l ∷ []) → (ws : List ℕ) (o : Op) → from_8 f ws ≡ Some o → operands_of o ≡ ws
 of_8 f s [] o e = cc
 of_8 f s (a ∷ []) o e = cc
 of_8 f s (a ∷ b ∷ []) o e = cc
 of_8 f s (a ∷ b ∷ c ∷ []) o e = cc
 of_8 f s (a ∷ b ∷ c ∷ d ∷ []) o e = cc
-of_8 f s (a ∷ b ∷ c ∷ d ∷ e ∷ []) o e = cc
-of_8 f s (a ∷ b ∷ c ∷ d ∷ e ∷ f ∷ []) o e = cc
-of_8 f s (a ∷ b ∷ c ∷ d ∷ e ∷ f ∷ g ∷ []) o e = cc
-of_8 f s (a ∷ b ∷ c ∷ d ∷ e ∷ f ∷ g ∷ i ∷ []) o e = let made : f a b c d e f g i ≡ o = cc in ap operands_of (sym made) ∙ s a b c d e f g i
-of_8 f s (a ∷ b ∷ c ∷ d ∷ e ∷ f ∷ g ∷ i ∷ z ∷ ws) o e = cc
+of_8 f s (a ∷ b ∷ c ∷ d ∷ i ∷ []) o e = cc
+of_8 f s (a ∷ b ∷ c ∷ d ∷ i ∷ j ∷ []) o e = cc
+of_8 f s (a ∷ b ∷ c ∷ d ∷ i ∷ j ∷ k ∷ []) o e = cc
+of_8 f s (a ∷ b ∷ c ∷ d ∷ i ∷ j ∷ k ∷ l ∷ []) o e = let made : f a b c d i j k l ≡ o = cc in ap operands_of (sym made) ∙ s a b c d i j k l
+of_8 f s (a ∷ b ∷ c ∷ d ∷ i ∷ j ∷ k ∷ l ∷ z ∷ ws) o e = cc
 
 of_1_and : (f : ℕ → List ℕ → Op) → ((a : ℕ) (ws : List ℕ) → operands_of (f a ws) ≡ a ∷ ws) → (ws : List ℕ) (o : Op) → from_1_and f ws ≡ Some o → operands_of o ≡ ws
 of_1_and f s [] o e = cc
@@ -117,7 +117,7 @@ of_variable (a ∷ b ∷ c ∷ ws) o e = ap operands_of (sym (of_if (nat_le (len
 made_operands : (c : Opcode) (ws : List ℕ) (o : Op) → made_by c ws ≡ Some o → operands_of o ≡ ws
 made_operands opcode.MemoryModel ws o e = of_2 op.MemoryModel (λ a b. refl) ws o e
 made_operands opcode.EntryPoint ws o e = of_4_and op.EntryPoint (λ a b c d xs. refl) ws o e
-made_operands opcode.ExecutionMode ws o e = of_5 op.ExecutionMode (λ a b c d e. refl) ws o e
+made_operands opcode.ExecutionMode ws o e = of_5 op.ExecutionMode (λ a b c d i. refl) ws o e
 made_operands opcode.Capability ws o e = of_1 op.Capability (λ a. refl) ws o e
 made_operands opcode.TypeVoid ws o e = of_1 op.TypeVoid (λ a. refl) ws o e
 made_operands opcode.TypeBool ws o e = of_1 op.TypeBool (λ a. refl) ws o e
@@ -137,8 +137,8 @@ made_operands opcode.AccessChain ws o e = of_chain ws o e
 made_operands opcode.Decorate ws o e = of_decorate ws o e
 made_operands opcode.MemberDecorate ws o e = of_member_decorate ws o e
 made_operands opcode.CompositeExtract ws o e = of_4 op.CompositeExtract (λ a b c d. refl) ws o e
-made_operands opcode.Select ws o e = of_5 op.Select (λ a b c d e. refl) ws o e
-made_operands opcode.AtomicCompareExchange ws o e = of_8 op.AtomicCompareExchange (λ a b c d e f g i. refl) ws o e
+made_operands opcode.Select ws o e = of_5 op.Select (λ a b c d i. refl) ws o e
+made_operands opcode.AtomicCompareExchange ws o e = of_8 op.AtomicCompareExchange (λ a b c d i j k l. refl) ws o e
 made_operands opcode.LoopMerge ws o e = of_3 op.LoopMerge (λ a b c. refl) ws o e
 made_operands opcode.SelectionMerge ws o e = of_2 op.SelectionMerge (λ a b. refl) ws o e
 made_operands opcode.Label ws o e = of_1 op.Label (λ a. refl) ws o e
@@ -192,7 +192,7 @@ reading_same (suc n) zero (w ∷ ws) a b = absurd (omega arith)
 reading_same (suc n) (suc m) (w ∷ ws) a b =
     same_front (front w ws) (reading n) (reading m)
     (λ o rest e. let all = front_words w ws o rest e in
-      reading_same n m rest (omega arith) (omega arith))
+    reading_same n m rest (omega arith) (omega arith))
 
 pub front_read : (w : ℕ) (ws : List ℕ) (o : Op) (rest : List ℕ) → front w ws ≡ Instruction o rest → reading_of (w ∷ ws) ≡ read_more o (reading_of rest)
 unfolding reading

@@ -5,3 +5,4 @@ pub mod Places
 pub mod Cutting
 pub mod Walking
 pub mod Edges
+pub mod Chains

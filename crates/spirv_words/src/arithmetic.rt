@@ -45,13 +45,17 @@ impl Known<'_> {
         ensures { result ≡ operand_fault self.now at (ops.Unary code result_type id a) }
     {
         match code {
-            UnaryCode::LogicalNot =>
-                first_wrong(at, &[self.truth_type(result_type), self.result(id), self.truth(a)]),
+            UnaryCode::LogicalNot => first_wrong(
+                at,
+                &[self.truth_type(result_type), self.result(id), self.truth(a)],
+            ),
             UnaryCode::Negate
             | UnaryCode::Complement
             | UnaryCode::BitReverse
-            | UnaryCode::BitCount =>
-                first_wrong(at, &[self.word_type(result_type), self.result(id), self.word(a)]),
+            | UnaryCode::BitCount => first_wrong(
+                at,
+                &[self.word_type(result_type), self.result(id), self.word(a)],
+            ),
         }
     }
 
@@ -75,15 +79,30 @@ impl Known<'_> {
             | BinaryCode::SignedGreaterEqual
             | BinaryCode::Less
             | BinaryCode::SignedLess => {
-                let head = [self.truth_type(result_type), result, self.word(a), self.word(b)];
+                let head = [
+                    self.truth_type(result_type),
+                    result,
+                    self.word(a),
+                    self.word(b),
+                ];
                 first_wrong(at, &head)
             }
             BinaryCode::WideMultiply | BinaryCode::SignedWideMultiply => {
-                let head = [self.pair_type(result_type), result, self.word(a), self.word(b)];
+                let head = [
+                    self.pair_type(result_type),
+                    result,
+                    self.word(a),
+                    self.word(b),
+                ];
                 first_wrong(at, &head)
             }
             BinaryCode::LogicalAnd => {
-                let head = [self.truth_type(result_type), result, self.truth(a), self.truth(b)];
+                let head = [
+                    self.truth_type(result_type),
+                    result,
+                    self.truth(a),
+                    self.truth(b),
+                ];
                 first_wrong(at, &head)
             }
             BinaryCode::Add
@@ -97,7 +116,12 @@ impl Known<'_> {
             | BinaryCode::BitOr
             | BinaryCode::BitXor
             | BinaryCode::BitAnd => {
-                let head = [self.word_type(result_type), result, self.word(a), self.word(b)];
+                let head = [
+                    self.word_type(result_type),
+                    result,
+                    self.word(a),
+                    self.word(b),
+                ];
                 first_wrong(at, &head)
             }
         }

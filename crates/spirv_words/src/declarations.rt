@@ -88,7 +88,11 @@ impl Known<'_> {
         requires { at + 3 < 2 ^ 32 }
         ensures { result ≡ operand_fault self.now at (ops.TypePointer id class pointee) }
     {
-        let head = [self.result(id), shape(is_class(class)), self.pointed_type(class, pointee)];
+        let head = [
+            self.result(id),
+            shape(is_class(class)),
+            self.pointed_type(class, pointee),
+        ];
         first_wrong(at, &head)
     }
 

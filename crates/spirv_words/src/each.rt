@@ -29,9 +29,13 @@ pub enum Each {
 }
 
 const ARRAY_STRIDE: u32 = 6;
+
 const BUILT_IN: u32 = 11;
+
 const BINDING: u32 = 33;
+
 const DESCRIPTOR_SET: u32 = 34;
+
 const BINDINGS: u32 = 38;
 
 /// Whether a decoration takes a value.

@@ -61,6 +61,9 @@ impl Known<'_> {
         requires { at + 3 < 2 ^ 32 }
         ensures { result ≡ operand_fault self.now at (ops.BranchConditional condition yes no) }
     {
-        first_wrong(at, &[self.truth(condition), self.label(yes), self.label(no)])
+        first_wrong(
+            at,
+            &[self.truth(condition), self.label(yes), self.label(no)],
+        )
     }
 }

@@ -138,8 +138,7 @@ pub fn instruction(opcode: Opcode, operands: &[u32]) -> Option<Op<'_>>
     match opcode {
         Opcode::Capability => with!(operands: Capability capability),
         Opcode::MemoryModel => with!(operands: MemoryModel addressing model),
-        Opcode::EntryPoint =>
-            with!(operands: EntryPoint model function name name_end ..interface),
+        Opcode::EntryPoint => with!(operands: EntryPoint model function name name_end ..interface),
         Opcode::ExecutionMode => with!(operands: ExecutionMode function mode x y z),
         Opcode::Decorate => decorate(operands),
         Opcode::MemberDecorate => member_decorate(operands),

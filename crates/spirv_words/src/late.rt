@@ -49,16 +49,19 @@ impl Known<'_> {
                 let head = [None, self.made_at_all(function), None, None];
                 self.listed(at, &head, Each::MadeAtAll, interface)
             }
-            Op::ExecutionMode { function, .. } =>
-                first_wrong(at, &[self.made_at_all(function)]),
+            Op::ExecutionMode { function, .. } => first_wrong(at, &[self.made_at_all(function)]),
             Op::Decorate { target, .. } => first_wrong(at, &[self.made_at_all(target)]),
             Op::MemberDecorate { target, .. } => first_wrong(at, &[self.made_at_all(target)]),
-            Op::LoopMerge { merge, next, .. } =>
-                first_wrong(at, &[self.block(merge), self.block(next)]),
+            Op::LoopMerge { merge, next, .. } => first_wrong(
+                at,
+                &[self.block(merge), self.block(next)],
+            ),
             Op::SelectionMerge { merge, .. } => first_wrong(at, &[self.block(merge)]),
             Op::Branch { label } => first_wrong(at, &[self.block(label)]),
-            Op::BranchConditional { yes, no, .. } =>
-                first_wrong(at, &[None, self.block(yes), self.block(no)]),
+            Op::BranchConditional { yes, no, .. } => first_wrong(
+                at,
+                &[None, self.block(yes), self.block(no)],
+            ),
             _ => None,
         }
     }

@@ -57,7 +57,12 @@ impl Known<'_> {
             [] => first_wrong(at, &[chain_type, result, based]),
             [member, places @ ..] => {
                 let count = member_count(self.block_of(self.maker(base)));
-                let head = [chain_type, result, based, self.constant_below(count, *member)];
+                let head = [
+                    chain_type,
+                    result,
+                    based,
+                    self.constant_below(count, *member),
+                ];
                 self.listed(at, &head, Each::Word, places)
             }
         }

@@ -27,7 +27,6 @@ impl Model for Module {
 }
 
 impl Module {
-
     /// The words.
     pub fn words(&self) -> &[u32]
         ensures words { result.now ≡ self.now }

@@ -34,7 +34,9 @@ fn same_type(a: Op<'_>, b: Op<'_>) -> bool
         ) => width == other_width && sign == other_sign,
         (
             Op::TypeVector {
-                component, count, ..
+                component,
+                count,
+                ..
             },
             Op::TypeVector {
                 component: other_component,

@@ -17,7 +17,8 @@ macro_rules! operands {
     ($known:ident, $at:ident, $op:ident: $($name:ident($($field:ident)*) $fault:ident)*) => {
         match $op {
             $(Op::$name { $($field),* } => $known.$fault($at, $($field),*),)*
-            Op::FunctionEnd | Op::Return => None,
+            Op::FunctionEnd => None,
+            Op::Return => None,
         }
     };
 }

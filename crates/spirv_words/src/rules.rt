@@ -201,9 +201,8 @@ impl<'a> Known<'a> {
     {
         match self.type_given(Some(op)) {
             None => false,
-            Some(given) =>
-                self.points_to_word(FUNCTION, given)
-                    || self.points_to_word(STORAGE_BUFFER, given),
+            Some(given) => self.points_to_word(FUNCTION, given)
+                || self.points_to_word(STORAGE_BUFFER, given),
         }
     }
 

@@ -59,7 +59,7 @@ pub fn may_follow(earlier: Section, later: Section) -> bool
             later,
             Section::Capabilities | Section::Model | Section::Entry
         ),
-        Section::Modes | Section::Decorations | Section::Types | Section::Body =>
-            earlier as u8 <= later as u8,
+        Section::Modes | Section::Decorations | Section::Types | Section::Body => earlier as u8
+            <= later as u8,
     }
 }

@@ -11,12 +11,17 @@ use crate::known::Known;
 use crate::verdict::{first_wrong, shape};
 
 const SHADER: u32 = 1;
+
 const LOGICAL: u32 = 0;
+
 const GLSL_450: u32 = 1;
+
 const GL_COMPUTE: u32 = 5;
+
 const LOCAL_SIZE: u32 = 17;
 // the text `main`, and its end
 const NAME_MAIN: u32 = 0x6e69_616d;
+
 const NAME_END: u32 = 0;
 // the decoration of a member
 const OFFSET: u32 = 35;
@@ -41,7 +46,10 @@ impl Known<'_> {
         requires { at + 2 < 2 ^ 32 }
         ensures { result ≡ operand_fault self.now at (ops.MemoryModel addressing model) }
     {
-        first_wrong(at, &[shape(addressing == LOGICAL), shape(model == GLSL_450)])
+        first_wrong(
+            at,
+            &[shape(addressing == LOGICAL), shape(model == GLSL_450)],
+        )
     }
 
     pub fn entry_point_fault(
@@ -77,7 +85,13 @@ impl Known<'_> {
         requires { at + 5 < 2 ^ 32 }
         ensures { result ≡ operand_fault self.now at (ops.ExecutionMode function mode x y z) }
     {
-        let head = [self.entry_named(function), shape(mode == LOCAL_SIZE), None, None, None];
+        let head = [
+            self.entry_named(function),
+            shape(mode == LOCAL_SIZE),
+            None,
+            None,
+            None,
+        ];
         first_wrong(at, &head)
     }
 

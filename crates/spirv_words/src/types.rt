@@ -129,8 +129,8 @@ impl Known<'_> {
         ensures { result ≡ types.is_pointer (history self.now) of_class types.is_word (shown op.entry) }
     {
         match op {
-            Op::TypePointer { class, pointee, .. } =>
-                class == of_class && is_word(self.maker(pointee)),
+            Op::TypePointer { class, pointee, .. } => class == of_class
+                && is_word(self.maker(pointee)),
             _ => false,
         }
     }

@@ -155,13 +155,7 @@ impl<'a> Known<'a> {
     {
         match op {
             Some(Op::TypeStruct { members, .. }) => match members {
-                [member] => {
-                    if is_array(self.maker(*member)) {
-                        2
-                    } else {
-                        1
-                    }
-                }
+                [member] => { if is_array(self.maker(*member)) { 2 } else { 1 } }
                 _ => 1,
             },
             _ => 0,

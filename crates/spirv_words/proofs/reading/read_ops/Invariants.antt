@@ -8,7 +8,7 @@ abbrev pub invariant-words : goal.invariant-words
 invariant-words l = record {
   left : Left l.bound (reading_of l.body) (history l.known) l.at (reading_of l.rest);
   place : l.at + length l.rest ≡ 5 + length l.body;
-  same_bound : l.known.bound ≡ l.bound
+  same_bound : l.known.bound ≡ l.bound;
 }
 
 abbrev pub decreases-words : goal.decreases-words

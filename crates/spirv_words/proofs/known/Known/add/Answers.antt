@@ -17,5 +17,5 @@ invariant_of-result c =
       names_labels = λ x. c.in_ok-add-2.ensures h c.args.self.names_labels x ∙ ap (is_branched_to x) (sym pushed);
       has_types = λ o. c.in_ok-add-3.ensures h c.args.self.has_types o ∙ ap (is_declared o) (sym pushed);
       has_entry = λ f. c.entry_after.ensures h c.args.self.has_entry f ∙ ap (is_entry f) (sym pushed);
-      is_place = subst (λ (l : List Op). IsPlace c.after.result l) (sym pushed) (c.after.ensures h c.args.self.is_place)
+      is_place = subst (λ (l : List Op). IsPlace c.after.result l) (sym pushed) (c.after.ensures h c.args.self.is_place);
     }
