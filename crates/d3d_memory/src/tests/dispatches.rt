@@ -1,34 +1,33 @@
 use super::{buffer, lines, predication, read};
 use call_log::Call;
-use std::alloc::{AllocError, Global};
 use std::test::Fail;
 
-/// Adds 1 to word 0 of unordered access view 0, which is raw, in groups of two threads.
-static COUNTS: [u32; 28] = [
-    1, 28, 0x401, 2, 1, 1, 0x405, 0, 0, 0, 0x1238, 7, 0x100, 1, 0, 0, 0, 0, 1, 0, 0, 0, 0, 1, 1, 0,
-    0, 0,
+/// The token bytes of a shader that adds 1 to word 0 of unordered access view 0, which is raw, in groups of two threads.
+static COUNTS: [u8; 112] = [
+    1, 0, 0, 0, 28, 0, 0, 0, 1, 4, 0, 0, 2, 0, 0, 0, 1, 0, 0, 0, 1, 0, 0, 0, 5, 4, 0, 0, 0, 0, 0,
+    0, 0, 0, 0, 0, 0, 0, 0, 0, 56, 18, 0, 0, 7, 0, 0, 0, 0, 1, 0, 0, 1, 0, 0, 0, 0, 0, 0, 0, 0, 0,
+    0, 0, 0, 0, 0, 0, 0, 0, 0, 0, 1, 0, 0, 0, 0, 0, 0, 0, 0, 0, 0, 0, 0, 0, 0, 0, 0, 0, 0, 0, 1, 0,
+    0, 0, 1, 0, 0, 0, 0, 0, 0, 0, 0, 0, 0, 0, 0, 0, 0, 0,
 ];
 
-/// In a group of 64 threads each adds 1 to a word of unordered access view 0: the word whose number is its own word of
-/// resource 0 and the first constant together, modulo 256.
-static ADDS: [u32; 65] = [
-    1, 65, 0x401, 0x40, 1, 1, 0x202, 1, 0x203, 0, 0x404, 0, 0, 0, 0x405, 0, 0, 0, 0x820, 0x10, 3,
-    1, 2, 0, 0, 0, 0x430, 0x10, 0, 0, 0x512, 0x10, 0, 2, 0, 0x81c, 0x10, 0, 1, 0xff, 0, 0, 0,
-    0x820, 0x10, 0, 1, 2, 0, 0, 0, 0xe38, 7, 0x100, 0, 1, 0, 0, 0, 0, 1, 1, 0, 0, 0,
+/// The token bytes of a shader in whose group of 64 threads each adds 1 to a word of unordered access view 0: the word
+/// whose number is its own word of resource 0 and the first constant together, modulo 256.
+static ADDS: [u8; 260] = [
+    1, 0, 0, 0, 65, 0, 0, 0, 1, 4, 0, 0, 64, 0, 0, 0, 1, 0, 0, 0, 1, 0, 0, 0, 2, 2, 0, 0, 1, 0, 0,
+    0, 3, 2, 0, 0, 0, 0, 0, 0, 4, 4, 0, 0, 0, 0, 0, 0, 0, 0, 0, 0, 0, 0, 0, 0, 5, 4, 0, 0, 0, 0, 0,
+    0, 0, 0, 0, 0, 0, 0, 0, 0, 32, 8, 0, 0, 16, 0, 0, 0, 3, 0, 0, 0, 1, 0, 0, 0, 2, 0, 0, 0, 0, 0,
+    0, 0, 0, 0, 0, 0, 0, 0, 0, 0, 48, 4, 0, 0, 16, 0, 0, 0, 0, 0, 0, 0, 0, 0, 0, 0, 18, 5, 0, 0,
+    16, 0, 0, 0, 0, 0, 0, 0, 2, 0, 0, 0, 0, 0, 0, 0, 28, 8, 0, 0, 16, 0, 0, 0, 0, 0, 0, 0, 1, 0, 0,
+    0, 255, 0, 0, 0, 0, 0, 0, 0, 0, 0, 0, 0, 0, 0, 0, 0, 32, 8, 0, 0, 16, 0, 0, 0, 0, 0, 0, 0, 1,
+    0, 0, 0, 2, 0, 0, 0, 0, 0, 0, 0, 0, 0, 0, 0, 0, 0, 0, 0, 56, 14, 0, 0, 7, 0, 0, 0, 0, 1, 0, 0,
+    0, 0, 0, 0, 1, 0, 0, 0, 0, 0, 0, 0, 0, 0, 0, 0, 0, 0, 0, 0, 0, 0, 0, 0, 1, 0, 0, 0, 1, 0, 0, 0,
+    0, 0, 0, 0, 0, 0, 0, 0, 0, 0, 0, 0,
 ];
 
 /// Counts of groups: 65,536, 1, 2, 2, 4,096, 4,096, 1.
 static GROUPS: [u8; 28] = [
     0, 0, 1, 0, 1, 0, 0, 0, 2, 0, 0, 0, 2, 0, 0, 0, 0, 16, 0, 0, 0, 16, 0, 0, 1, 0, 0, 0,
 ];
-
-fn token_bytes(alloc: Global, words: &[u32]) -> Result<Vec<u8>, AllocError> {
-    let mut bytes = Vec::new(alloc);
-    for word in words {
-        bytes.extend_from_slice(&word.to_le_bytes())?;
-    }
-    Ok(bytes)
-}
 
 /// A dispatch under a predicate of this kind, through a view of this form: the first word of the view's buffer, and the
 /// invocations that are counted.
@@ -88,7 +87,6 @@ static ROWS: [Row; 8] = [
 
 #[test]
 fn dispatches(rt: HostRuntime) -> Result<(), Fail> {
-    let counts = token_bytes(rt.alloc(), &COUNTS)?;
     for Row(call, kind, form, want) in &ROWS {
         let log = [
             buffer(1, 16, 0, &[]),
@@ -103,7 +101,7 @@ fn dispatches(rt: HostRuntime) -> Result<(), Fail> {
             },
             Call::CreateShader {
                 id: 1,
-                words: &counts,
+                words: &COUNTS,
             },
             Call::SetShader { id: 1 },
             Call::SetUav { slot: 0, view: 1 },
@@ -124,7 +122,6 @@ fn dispatches(rt: HostRuntime) -> Result<(), Fail> {
 // Thread 0 reads 0xffffffff and adds the constant 1 to it; the others read outside the view, and write outside.
 #[test]
 fn all_kinds_of_slots(rt: HostRuntime) -> Result<(), Fail> {
-    let adds = token_bytes(rt.alloc(), &ADDS)?;
     let log = [
         buffer(1, 16, 0, &[]),
         word_of(1, 1),
@@ -133,7 +130,7 @@ fn all_kinds_of_slots(rt: HostRuntime) -> Result<(), Fail> {
         buffer(3, 16, 0, &[1, 0, 0, 0, 0, 0, 0, 0, 0, 0, 0, 0, 0, 0, 0, 0]),
         Call::CreateShader {
             id: 1,
-            words: &adds,
+            words: &ADDS,
         },
         Call::SetShader { id: 1 },
         Call::SetUav { slot: 0, view: 1 },
