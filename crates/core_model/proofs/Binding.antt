@@ -27,11 +27,11 @@ use Rattle.core_model.proofs.Turning.{all_last, pairs_last, numbered_last, flat_
 
 -- Owners as ranges are bound -------------------------------------------------------------------------------------------------
 
-or_left : (a b : Bool) → a ≡ true → (a || b) ≡ true
+pub or_left : (a b : Bool) → a ≡ true → (a || b) ≡ true
 or_left true b e = refl
 or_left false b e = absurd (cc e)
 
-or_right : (a b : Bool) → b ≡ true → (a || b) ≡ true
+pub or_right : (a b : Bool) → b ≡ true → (a || b) ≡ true
 or_right true b e = refl
 or_right false b e = e
 
@@ -71,7 +71,7 @@ bind_live rs b r Dropped l = absurd l
 
 -- The staging blocks that a chunk names ---------------------------------------------------------------------------------------
 
-has_more : (b : ℕ) (rs ss : List Range) → has_block b rs ≡ true → has_block b (rs ++ ss) ≡ true
+pub has_more : (b : ℕ) (rs ss : List Range) → has_block b rs ≡ true → has_block b (rs ++ ss) ≡ true
 has_more b rs ss h = list_any-append (λ r. r.block == b) rs ss ∙ or_left (has_block b rs) (has_block b ss) h
 
 -- a range more, or none
@@ -115,7 +115,7 @@ staging_added script blocks (r ∷ rs) staging b all h =
       | inr n ↦ staging_added script blocks rs (added_one script blocks r staging) b all.1 (sym (ap (λ c. c || has_block b (map (range_on blocks) rs)) n) ∙ h)
     ]
 
-used_more_last : (xs : List Segment) (a c : Segment) (b : ℕ) → (has_block b a.bound ≡ true → has_block b c.bound ≡ true) → used_in (xs ++ c ∷ []) b ≡ false → used_in (xs ++ a ∷ []) b ≡ false
+pub used_more_last : (xs : List Segment) (a c : Segment) (b : ℕ) → (has_block b a.bound ≡ true → has_block b c.bound ≡ true) → used_in (xs ++ c ∷ []) b ≡ false → used_in (xs ++ a ∷ []) b ≡ false
 used_more_last [] a c b f h =
     elim (cases_Bool (has_block b a.bound)) [
       | inl t ↦ absurd (let z : true ≡ false = sym (ap (λ v. v || false) (f t)) ∙ h in cc z)
@@ -217,8 +217,8 @@ module _ (meaning : Meaning) (reading : Reading) (script : Script) (lawful : IsL
           whole = s.whole;
           order = s.order;
           snaps = s.snaps;
-          copies = λ r b st is n i.
-              s.copies r b st is (used_more_last (later old) old.open_chunk binding.open_chunk b (has_more b old.open_chunk.bound blocks_bound) n) i
+          copies = λ r b st is n i l.
+              s.copies r b st is (used_more_last (later old) old.open_chunk binding.open_chunk b (has_more b old.open_chunk.bound blocks_bound) n) i l
               ∙ ap (λ l. run_entries meaning l zeros b i) (sym binding_listed);
           names = binding_all (NamesStaging script old.blocks) (names_new g) s.names;
           elsewhere = subst WritesElsewhere (sym (segments_handed binding)) (pairs_last Elsewhere front old.open_chunk binding.open_chunk (λ x h. h) (subst WritesElsewhere (segments_handed old) s.elsewhere));

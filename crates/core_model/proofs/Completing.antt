@@ -60,7 +60,7 @@ any_less p q f (x ∷ xs) h =
     both a b h k = ap (λ a. a || b) h ∙ k
 
 -- what is not touched is not written
-untouched : (ts : List Touch) (b i : ℕ) → is_touched ts b i ≡ false → is_written ts b i ≡ false
+pub untouched : (ts : List Touch) (b i : ℕ) → is_touched ts b i ≡ false → is_written ts b i ≡ false
 untouched ts b i h = any_less (λ t. covers t.range b i) (λ t. has_write t.access && covers t.range b i) (λ t k. (and_parts (has_write t.access) (covers t.range b i) k).1) ts h
 
 -- of a block that is not touched no byte is written

@@ -4,6 +4,7 @@ use Rattle.std.specs.List.{AllByRecursion}
 use Rattle.vk_types.specs.declared.op.VkOp.{VkOp}
 use Rattle.vk_types.specs.BarrierCauses.{least_writer, host_barrier, barriers_from}
 use Rattle.vk_types.specs.Entries.{Entry, entry_before, entries_conflict, EntriesKeep, EntriesCovered, Counts, next, after_host, after_barrier, after_submit, after_fence, start_counts, placed_entries}
+use Rattle.vk_types.specs.Listing.{written_ranges}
 use Rattle.vk_types.specs.RunListing.{IsNumbered, IsWhole, IsRunListing}
 use Rattle.vk_types.specs.Covered.{Covered}
 use Rattle.core_model.specs.AppActs.{device_commands}
@@ -11,7 +12,7 @@ use Rattle.core_model.specs.RunReads.{ReadsStaging}
 use Rattle.core_model.specs.Listed.{ListState, nothing_listed, after_op, after_ops, GoesOn, plain, plain_entries, is_of_device, after_count, after_counts, contents_after, IsCounted, IsListed}
 use Rattle.core_model.proofs.RunOrder.{Alike, same_order}
 use Rattle.core_model.proofs.RunCovered.{pairs_mapped, run_covered}
-use Rattle.core_model.proofs.Growing.{pairs_to_map, pairs_map, after_append, goes_on, reads_append, device_reads, plain_before, device_plain, entries_append, contents_append, device_contents}
+use Rattle.core_model.proofs.Growing.{pairs_to_map, pairs_map, after_append, goes_on, reads_append, device_reads, plain_before, device_plain, entries_append, ranges_append, device_ranges, contents_kept, contents_append, device_contents}
 use Rattle.vk_types.specs.declared.command.Command as c
 use Rattle.vk_types.specs.declared.op.VkOp.TheVariants as op
 
@@ -57,6 +58,10 @@ end_contents : (o : Option ℕ) (k : ℕ) (contents : List (List ℕ)) → conte
 end_contents None k contents = refl
 end_contents (Some first) k contents = refl
 
+end_ranges : (o : Option ℕ) (k : ℕ) → written_ranges (batch_end o k) ≡ []
+end_ranges None k = refl
+end_ranges (Some first) k = refl
+
 end_reads : (staging : ℕ → Bool) (o : Option ℕ) (k : ℕ) → ReadsStaging staging (batch_end o k)
 end_reads staging None k = tt
 end_reads staging (Some first) k = tt
@@ -68,7 +73,7 @@ counts_append c [] ys = refl
 counts_append c (x ∷ xs) ys = counts_append (after_count c x) xs ys
 
 -- operations of the device are no fences and no acts of the host
-device_counts : (ops : List VkOp) → AllByRecursion (λ o. is_of_device o ≡ true) ops → (c : Counts) → ((after_counts c ops).fence ≡ c.fence) × ((after_counts c ops).number ≡ c.number)
+pub device_counts : (ops : List VkOp) → AllByRecursion (λ o. is_of_device o ≡ true) ops → (c : Counts) → ((after_counts c ops).fence ≡ c.fence) × ((after_counts c ops).number ≡ c.number)
 device_counts [] h c = (refl, refl)
 device_counts (op.HostWrite r call ∷ ops) h c = let z = h.0 in absurd (cc z)
 device_counts (op.Pipeline shader ∷ ops) h c = let z = h.0 in absurd (cc z)
@@ -79,7 +84,7 @@ device_counts (op.Fence k ∷ ops) h c = let z = h.0 in absurd (cc z)
 device_counts (op.HostRead r call ∷ ops) h c = let z = h.0 in absurd (cc z)
 
 -- barriers before commands are counted alike, whatever else was counted
-epoch_alike : (ops : List VkOp) (c d : Counts) → c.epoch ≡ d.epoch → (after_counts c ops).epoch ≡ (after_counts d ops).epoch
+pub epoch_alike : (ops : List VkOp) (c d : Counts) → c.epoch ≡ d.epoch → (after_counts c ops).epoch ≡ (after_counts d ops).epoch
 epoch_alike [] c d e = e
 epoch_alike (op.HostWrite r call ∷ ops) c d e = epoch_alike ops (after_host c) (after_host d) e
 epoch_alike (op.Pipeline shader ∷ ops) c d e = epoch_alike ops (next c) (next d) e
@@ -152,6 +157,7 @@ module _ (staging : ℕ → Bool) (listing ops : List VkOp) (contents : List (Li
         since = ap (λ s. (after_ops s ops).recent) same ∙ h.since;
         lists = ap (λ s. (after_ops s ops).batch) same ∙ h.lists;
         reads = reads_append staging listing (op.Fence k ∷ []) h.reads tt;
+        filled = contents_kept listing (op.Fence k ∷ []) contents refl h.filled;
         used = contents_append contents listing (op.Fence k ∷ []) ∙ h.used;
         entries = entries_append start_counts contents listing (op.Fence k ∷ []) ∙ append-nil (plain_entries start_counts contents listing) ∙ h.entries;
         works =
@@ -173,6 +179,7 @@ module _ (staging : ℕ → Bool) (listing ops : List VkOp) (contents : List (Li
         since = ap (λ s. (after_ops s ops).recent) same ∙ h.since;
         lists = ap (λ s. (after_ops s ops).batch) same ∙ h.lists;
         reads = reads_append staging listing (op.Pipeline call ∷ []) h.reads tt;
+        filled = contents_kept listing (op.Pipeline call ∷ []) contents refl h.filled;
         used = contents_append contents listing (op.Pipeline call ∷ []) ∙ h.used;
         entries = entries_append start_counts contents listing (op.Pipeline call ∷ []) ∙ append-nil (plain_entries start_counts contents listing) ∙ h.entries;
         works =
@@ -207,6 +214,8 @@ module _ (staging : ℕ → Bool) (listing ops : List VkOp) (contents : List (Li
         lists = ap (λ s. s.batch) same;
         reads = reads_append staging listing (ops ++ end) h.reads
             (reads_append staging ops end (device_reads staging ops h.of_device) (end_reads staging (least_writer staging (device_commands commands)) number));
+        filled = contents_kept listing (ops ++ end) contents
+            (ranges_append ops end ∙ ap (λ l. l ++ written_ranges end) (device_ranges ops h.of_device) ∙ end_ranges (least_writer staging (device_commands commands)) number) h.filled;
         used =
             contents_append contents listing (ops ++ end) ∙ ap (λ l. contents_after l (ops ++ end)) h.used ∙ contents_append [] ops end
             ∙ ap (λ l. contents_after l end) (device_contents ops h.of_device []) ∙ end_contents (least_writer staging (device_commands commands)) number [];

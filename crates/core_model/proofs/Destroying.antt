@@ -197,8 +197,8 @@ module _ (meaning : Meaning) (reading : Reading) (script : Script) (old : Core) 
           whole = s.whole;
           order = s.order;
           snaps = s.snaps;
-          copies = λ r b st is n i.
-              s.copies r b st (found buffer old.blocks r b is).0 (used_last (later old) old.open_chunk destroyed.open_chunk b refl ∙ n) i
+          copies = λ r b st is n i l.
+              s.copies r b st (found buffer old.blocks r b is).0 (used_last (later old) old.open_chunk destroyed.open_chunk b refl ∙ n) i l
               ∙ ap (λ l. run_entries meaning l zeros b i) (sym destroyed_listed);
           names = destroyed_all (NamesStaging script old.blocks) (NamesStaging script destroyed.blocks)
               (λ s h r b st is k. h r b st (found buffer old.blocks r b is).0 k)
@@ -215,7 +215,9 @@ module _ (meaning : Meaning) (reading : Reading) (script : Script) (old : Core) 
         live = live_without g;
         totals =
             subst (Totals (run_world meaning (listed destroyed) empty).counts old.commands) (sym after)
-            (record { total = (subst (λ l. Totals (run_world meaning l empty).counts old.commands before) (sym destroyed_listed) g.totals).total });
+            (let t : Totals (run_world meaning (listed destroyed) empty).counts old.commands before =
+            subst (λ l. Totals (run_world meaning l empty).counts old.commands before) (sym destroyed_listed) g.totals in
+            record { total = t.total; above = t.above });
         replies = g.replies;
       }
 

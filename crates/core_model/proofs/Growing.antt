@@ -1,11 +1,12 @@
 -- Lists of operations behind one another, their barriers, numbers, counts and entries.
-use Rattle.std.proofs.Common.{◌≡◌, ℕ, suc, Bool, true, false, cond, nat_lt, nat_le, List, [], ◌∷◌, ◌++◌, map, refl, sym, ap, ◌∙◌, is_some, append_assoc}
+use Rattle.std.proofs.Common.{◌≡◌, ℕ, suc, ◌-◌, Bool, true, false, cond, nat_lt, nat_le, List, [], ◌∷◌, ◌++◌, map, refl, sym, ap, ◌∙◌, is_some, append_assoc, append-nil}
 use Rattle.std.specs.List.{AllByRecursion}
 use Rattle.vk_types.specs.declared.op.VkOp.{VkOp}
 use Rattle.vk_types.specs.Lists.{Pairwise}
 use Rattle.vk_types.specs.Effects.{Host_write, Device, Host_read, is_host}
 use Rattle.vk_types.specs.BarrierCauses.{barrier_before, least_writer, host_barrier, maybe_barrier, barriers_from}
 use Rattle.vk_types.specs.Entries.{Entry, entry_before, Counts, counted, next, after_host, after_barrier, after_submit, after_fence, first_of, rest_of}
+use Rattle.vk_types.specs.Listing.{written_ranges, AreContents}
 use Rattle.vk_types.specs.RunListing.{IsNumbered, IsWhole}
 use Rattle.vk_types.proofs.Lists.{all_map}
 use Rattle.core_model.specs.RunReads.{ReadsStaging}
@@ -141,6 +142,32 @@ entries_append c contents (op.Command d ∷ xs) ys = ap (λ l. plain (counted c 
 entries_append c contents (op.Submit k ∷ xs) ys = entries_append (after_submit c k) contents xs ys
 entries_append c contents (op.Fence k ∷ xs) ys = entries_append (after_fence c k) contents xs ys
 entries_append c contents (op.HostRead r call ∷ xs) ys = ap (λ l. plain (counted c (Host_read r)).entry ∷ l) (entries_append (after_host c) contents xs ys)
+
+-- the ranges that the host writes, of one list behind another
+pub ranges_append : (xs ys : List VkOp) → written_ranges (xs ++ ys) ≡ written_ranges xs ++ written_ranges ys
+ranges_append [] ys = refl
+ranges_append (op.HostWrite r call ∷ xs) ys = ap (λ l. r ∷ l) (ranges_append xs ys)
+ranges_append (op.Pipeline shader ∷ xs) ys = ranges_append xs ys
+ranges_append (op.Barrier barrier ∷ xs) ys = ranges_append xs ys
+ranges_append (op.Command d ∷ xs) ys = ranges_append xs ys
+ranges_append (op.Submit k ∷ xs) ys = ranges_append xs ys
+ranges_append (op.Fence k ∷ xs) ys = ranges_append xs ys
+ranges_append (op.HostRead r call ∷ xs) ys = ranges_append xs ys
+
+-- operations of the device write no range of the host
+pub device_ranges : (ops : List VkOp) → AllByRecursion (λ o. is_of_device o ≡ true) ops → written_ranges ops ≡ []
+device_ranges [] h = refl
+device_ranges (op.HostWrite r call ∷ ops) h = let z = h.0 in absurd (cc z)
+device_ranges (op.Pipeline shader ∷ ops) h = let z = h.0 in absurd (cc z)
+device_ranges (op.Barrier barrier ∷ ops) h = device_ranges ops h.1
+device_ranges (op.Command d ∷ ops) h = device_ranges ops h.1
+device_ranges (op.Submit k ∷ ops) h = let z = h.0 in absurd (cc z)
+device_ranges (op.Fence k ∷ ops) h = let z = h.0 in absurd (cc z)
+device_ranges (op.HostRead r call ∷ ops) h = let z = h.0 in absurd (cc z)
+
+-- the bytes are those of a longer listing that writes no range more
+pub contents_kept : (xs ys : List VkOp) (contents : List (List ℕ)) → written_ranges ys ≡ [] → AreContents xs contents → AreContents (xs ++ ys) contents
+contents_kept xs ys contents e h = h ∙ ap (map (λ r. r.to - r.from)) (sym (ranges_append xs ys ∙ ap (λ l. written_ranges xs ++ l) e ∙ append-nil (written_ranges xs)))
 
 pub contents_append : (contents : List (List ℕ)) (xs ys : List VkOp) → contents_after contents (xs ++ ys) ≡ contents_after (contents_after contents xs) ys
 contents_append contents [] ys = refl

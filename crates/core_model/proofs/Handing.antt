@@ -114,8 +114,8 @@ module _ (meaning : Meaning) (reading : Reading) (script : Script) (old : Core) 
       whole = s.whole;
       order = s.order;
       snaps = s.snaps;
-      copies = λ r b st is n i.
-          s.copies r b st is (ap (λ l. used_in l b) (sym moved_later) ∙ sym (used_append_none (later moved) empty_segment b refl) ∙ n) i
+      copies = λ r b st is n i l.
+          s.copies r b st is (ap (λ l. used_in l b) (sym moved_later) ∙ sym (used_append_none (later moved) empty_segment b refl) ∙ n) i l
           ∙ ap (λ l. run_entries meaning l zeros b i) (sym moved_listed);
       names = subst (AllByRecursion (NamesStaging script old.blocks)) (sym moved_segments)
           (all_append (NamesStaging script old.blocks) (segments old) (empty_segment ∷ []) s.names ((λ r b st is h. absurd (cc h)), tt));

@@ -1,13 +1,13 @@
 -- A log that is all that the checks of the calls make sure of.
-use Rattle.std.proofs.Common.{◌≡◌, ℕ, ◌+◌, ◌<◌, ◌≤◌, true, false, List, [], ◌∷◌, ◌++◌, refl, sym, ap, ◌∙◌, subst, Some, arith, append_assoc, append-nil}
+use Rattle.std.proofs.Common.{◌≡◌, ℕ, ◌+◌, ◌<◌, ◌≤◌, true, false, List, [], ◌∷◌, ◌++◌, refl, sym, ap, ◌∙◌, subst, Some, None, arith, append_assoc, append-nil}
 use Rattle.std.specs.List.{AllByRecursion}
 use Rattle.dx_types.specs.declared.range.Range.{Range}
 use Rattle.vk_types.specs.Hazards.{is_touched}
-use Rattle.core_model.specs.Script.{Turn, Refused, Passed, Flushed, Asked, Item}
-use Rattle.core_model.specs.Chunking.{call_of}
+use Rattle.core_model.specs.Script.{Stage, Turn, Refused, Passed, Flushed, Asked, Item}
+use Rattle.core_model.specs.Chunking.{call_of, ends_call}
 use Rattle.core_model.specs.Owners.{in_ranges}
-use Rattle.core_model.specs.Lawful.{play_touches, UsesRightly, Fits, PlaysRightly, may_bind, IsLawful}
-use Rattle.core_model.specs.WorkedLogs.{no_shaders, all_of, update_copy_map}
+use Rattle.core_model.specs.Lawful.{play_touches, UsesRightly, ComesNext, AsksRightly, Fits, PlaysRightly, may_bind, IsLawful}
+use Rattle.core_model.specs.WorkedLogs.{no_shaders, sixteen, all_of, buffer, copy, update_copy_map}
 
 -- what holds at each turn, of the turns before it and behind it
 abbrev AtEach : (List Turn → Turn → List Turn → Type 0) → List Turn → List Turn → Type 0
@@ -27,13 +27,13 @@ at_turn P pre (x ∷ xs) h (f ∷ front) t back e =
 
 -- each field by cases on the turn
 abbrev Calls : List Turn → Turn → List Turn → Type 0
-Calls front t back = (u : Turn) (others : List Turn) → back ≡ u ∷ others → call_of t ≤ call_of u
+Calls front t back = (0 < call_of t) × ((u : Turn) (others : List Turn) → back ≡ u ∷ others → ComesNext t u)
 
 abbrev Uses : List Turn → Turn → List Turn → Type 0
 Uses front (Refused call) back = Unit {0}
 Uses front (Passed call) back = Unit {0}
 Uses front (Flushed call) back = Unit {0}
-Uses front (Asked call ask used may_pend) back = UsesRightly front call ask used
+Uses front (Asked call ask used may_pend) back = UsesRightly front call ask used × AsksRightly no_shaders update_copy_map front ask
 Uses front (Item call item ends play bound) back = Unit {0}
 
 abbrev Items : List Turn → Turn → List Turn → Type 0
@@ -48,26 +48,32 @@ Items front (Item call item ends play bound) back =
     × AllByRecursion (λ t. t.range.from < t.range.to) (play_touches play)
     × (may_bind play ≡ false → bound ≡ [])
 
-rises : (m : ℕ) (v u : Turn) (others rest : List Turn) → m ≤ call_of v → v ∷ rest ≡ u ∷ others → m ≤ call_of u
-rises m v u others rest l e = let s : v ≡ u = cc e in subst (λ u. m ≤ call_of u) s l
+-- its update
+abbrev update : Turn
+update = Item 3 3 true (Stage sixteen (Some (all_of 1)) None) (all_of 1 ∷ [])
+
+-- a call that ends is followed by a later one
+rises : (m n : ℕ) (t v u : Turn) (others rest : List Turn) → ends_call t ≡ true → m < n → call_of t ≡ m → call_of v ≡ n → v ∷ rest ≡ u ∷ others → ComesNext t u
+rises m n t v u others rest ends less a b e =
+    let l : call_of t < call_of v = omega (arith, less, a, b) in let s : v ≡ u = cc e in subst (ComesNext t) s ((λ h. l), (λ h. absurd (let z : true ≡ false = sym ends ∙ h in cc z)))
 
 calls : AtEach Calls [] update_copy_map.turns
 calls = (
-  (λ u o e. rises 1 _ u o _ (omega arith) e),
+  ((omega arith), (λ u o e. rises 1 2 (buffer 1 []) _ u o _ refl (omega arith) refl refl e)),
   (
-    (λ u o e. rises 2 _ u o _ (omega arith) e),
+    ((omega arith), (λ u o e. rises 2 3 (buffer 2 []) _ u o _ refl (omega arith) refl refl e)),
     (
-      (λ u o e. rises 3 _ u o _ (omega arith) e),
+      ((omega arith), (λ u o e. rises 3 4 update _ u o _ refl (omega arith) refl refl e)),
       (
-        (λ u o e. rises 4 _ u o _ (omega arith) e),
-        ((λ u o e. absurd (cc e)), tt),
+        ((omega arith), (λ u o e. rises 4 5 (copy 4 2 1) _ u o _ refl (omega arith) refl refl e)),
+        (((omega arith), (λ u o e. absurd (cc e))), tt),
       ),
     ),
   ),
 )
 
 uses : AtEach Uses [] update_copy_map.turns
-uses = (tt, (tt, (tt, (tt, (refl, tt)))))
+uses = (tt, (tt, (tt, (tt, ((refl, ((refl, (omega arith)), refl, (omega arith))), tt)))))
 
 staged_to : (r : Range) → Some (all_of 1) ≡ Some r → r.to ≡ r.from + 16
 staged_to r e = let s : all_of 1 ≡ r = cc e in subst (λ r. r.to ≡ r.from + 16) s refl
@@ -89,8 +95,10 @@ items = (
 
 pub update_copy_map_lawful : IsLawful no_shaders update_copy_map
 update_copy_map_lawful = record {
-  calls = λ front t u back e. at_turn Calls [] update_copy_map.turns calls front t (u ∷ back) e u back refl;
-  uses = λ front call ask used may_pend back e. at_turn Uses [] update_copy_map.turns uses front (Asked call ask used may_pend) back e;
+  numbers = λ front t back e. (at_turn Calls [] update_copy_map.turns calls front t back e).0;
+  calls = λ front t u back e. (at_turn Calls [] update_copy_map.turns calls front t (u ∷ back) e).1 u back refl;
+  uses = λ front call ask used may_pend back e. (at_turn Uses [] update_copy_map.turns uses front (Asked call ask used may_pend) back e).0;
+  asks = λ front call ask used may_pend back e. (at_turn Uses [] update_copy_map.turns uses front (Asked call ask used may_pend) back e).1;
   plays = λ front call item ends play bound back e. (at_turn Items [] update_copy_map.turns items front (Item call item ends play bound) back e).0;
   fits = λ front call item ends play bound back e. (at_turn Items [] update_copy_map.turns items front (Item call item ends play bound) back e).1;
   binds = λ front call item ends play bound back e. (at_turn Items [] update_copy_map.turns items front (Item call item ends play bound) back e).2;

@@ -13,6 +13,10 @@ pub mod Idle
 pub mod Turning
 pub mod Binding
 pub mod Destroying
+pub mod MoreListed
+pub mod Alike
+pub mod Opened
+pub mod Commanding
 pub mod Steps
 pub mod Choices
 pub mod FromCommand

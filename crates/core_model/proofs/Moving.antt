@@ -102,8 +102,8 @@ module _ (meaning : Meaning) (reading : Reading) (script : Script) (old : Core)
       whole = o.whole;
       order = o.order;
       snaps = o.snaps;
-      copies = λ r b st is n i.
-          s.copies r b st is (subst (λ l. used_in (l ++ old.open_chunk ∷ []) b ≡ false) e n) i
+      copies = λ r b st is n i l.
+          s.copies r b st is (subst (λ l. used_in (l ++ old.open_chunk ∷ []) b ≡ false) e n) i l
           ∙ ap (λ l. run_entries meaning (flat l) zeros b i) (sym same_segments);
       names = subst (AllByRecursion (NamesStaging script old.blocks)) (sym same_segments) s.names;
       elsewhere = subst WritesElsewhere (sym same_segments) s.elsewhere;

@@ -1,6 +1,6 @@
 -- App takes posts: the pages come back, and its copies of staging blocks are as new as it can tell. A fence then stands in the
 -- listing.
-use Rattle.std.proofs.Common.{◌≡◌, ℕ, zero, suc, ◌≤◌, Bool, true, false, cond, max, ◌||◌, ◌==◌, List, [], ◌∷◌, ◌++◌, length, refl, sym, ap, ◌∙◌, subst, inl, inr, Option, Some, None, arith, append_assoc, append-nil}
+use Rattle.std.proofs.Common.{◌≡◌, ℕ, zero, suc, ◌<◌, ◌≤◌, Bool, true, false, cond, max, ◌||◌, ◌==◌, List, [], ◌∷◌, ◌++◌, length, refl, sym, ap, ◌∙◌, subst, inl, inr, Option, Some, None, arith, append_assoc, append-nil}
 use Rattle.std.specs.List.{AllByRecursion}
 use Rattle.std.proofs.lemmas.Bool.{cases_Bool, eqb-true}
 use Rattle.vk_types.specs.declared.op.VkOp.TheVariants as op
@@ -149,9 +149,9 @@ module _ (meaning : Meaning) (reading : Reading) (script : Script) (old : Core) 
       used_front (of_messages (ms ++ old.completions) ++ r) (q ++ z) b (ap (λ l. used_in l b) (sym line) ∙ n)
 
   -- by the post's copy of a block
-  copy_right : Sound meaning reading script old → (r b : ℕ) → script.is_staging r ≡ true → old.blocks r ≡ Some b → used_in behind b ≡ false → (i : ℕ)
+  copy_right : Sound meaning reading script old → (r b : ℕ) → script.is_staging r ≡ true → old.blocks r ≡ Some b → used_in behind b ≡ false → (i : ℕ) → i < script.size r
       → (o : Option (ℕ → ℕ)) → m.snaps b ≡ o → newest_copy o (old.copies b) i ≡ run_entries meaning (listed old) zeros b i
-  copy_right so r b st is n i (Some bytes) f =
+  copy_right so r b st is n i l (Some bytes) f =
       let right = (snaps_split so).0 in
       let named : has_block b m.segment.staging ≡ true =
       elim (cases_Bool (has_block b m.segment.staging)) [ inl t ↦ t | inr x ↦ absurd (let z : Some bytes ≡ None = sym f ∙ right.none b x in cc z) ] in
@@ -160,7 +160,7 @@ module _ (meaning : Meaning) (reading : Reading) (script : Script) (old : Core) 
       ∙ ap (λ f. f b i) (sym (run_entries-append meaning (flat old.taken ++ entries m.segment) (flat behind) zeros))
       ∙ ap (λ l. run_entries meaning l zeros b i)
       (append_assoc (flat old.taken) (entries m.segment) (flat behind) ∙ sym (flat-append old.taken (m.segment ∷ behind)) ∙ ap flat (sym old_segments))
-  copy_right so r b st is n i None f =
+  copy_right so r b st is n i l None f =
       let right = (snaps_split so).0 in
       let names : NamesStaging script old.blocks m.segment =
       (let parts : AllByRecursion (NamesStaging script old.blocks) (m.segment ∷ behind) =
@@ -170,7 +170,7 @@ module _ (meaning : Meaning) (reading : Reading) (script : Script) (old : Core) 
         | inl t ↦ let there = right.there b (names r b st is t) (after_unused b n) in absurd (let z : None ≡ Some there.0 = sym f ∙ there.1 in cc z)
         | inr x ↦ x
       ] in
-      so.copies r b st is (ap (λ l. used_in (l ++ old.open_chunk ∷ []) b) old_later ∙ ap (λ c. c || used_in behind b) unbound ∙ n) i
+      so.copies r b st is (ap (λ l. used_in (l ++ old.open_chunk ∷ []) b) old_later ∙ ap (λ c. c || used_in behind b) unbound ∙ n) i l
 
   posted_good : Good meaning reading script old → Good meaning reading script posted
   posted_good g = let s = g.sound in record {
@@ -211,7 +211,7 @@ module _ (meaning : Meaning) (reading : Reading) (script : Script) (old : Core) 
       whole = subst (λ l. IsReordering (commands_of l) (old.ran ++ rests old.accepted)) (sym posted_device) s.whole;
       order = s.order;
       snaps = subst (λ l. SnapsRight meaning l (ms ++ old.completions) (of_running old.accepted)) (sym posted_flat) (snaps_split s).1;
-      copies = λ r b st is n i. copy_right s r b st is n i (m.snaps b) refl ∙ ap (λ l. run_entries meaning (flat l) zeros b i) (sym posted_segments);
+      copies = λ r b st is n i l. copy_right s r b st is n i l (m.snaps b) refl ∙ ap (λ l. run_entries meaning (flat l) zeros b i) (sym posted_segments);
       names = subst (AllByRecursion (NamesStaging script old.blocks)) (sym posted_segments) s.names;
       elsewhere = subst WritesElsewhere (sym posted_segments) s.elsewhere;
     };

@@ -23,6 +23,7 @@ start_good meaning reading script = record {
       since = refl;
       lists = refl;
       reads = tt;
+      filled = refl;
       used = refl;
       entries = refl;
       works = refl;
@@ -41,7 +42,7 @@ start_good meaning reading script = record {
     whole = refl;
     order = tt;
     snaps = tt;
-    copies = λ r b st is n i. absurd (cc is);
+    copies = λ r b st is n i l. absurd (cc is);
     names = ((λ r b st is h. absurd (cc is)), tt);
     elsewhere = (tt, tt);
   };
@@ -52,6 +53,6 @@ start_good meaning reading script = record {
     bytes = λ r b i h lt. absurd (cc h);
   };
   live = λ r b h. absurd (cc h);
-  totals = record { total = refl };
+  totals = record { total = refl; above = λ n l. refl };
   replies = tt;
 }

@@ -127,8 +127,8 @@ module _ (meaning : Meaning) (reading : Reading) (script : Script) (old : Core) 
           whole = s.whole;
           order = s.order;
           snaps = s.snaps;
-          copies = λ r b st is n i.
-              s.copies r b st is (used_last (later old) old.open_chunk turned.open_chunk b refl ∙ n) i ∙ ap (λ l. run_entries meaning l zeros b i) (sym turned_listed);
+          copies = λ r b st is n i l.
+              s.copies r b st is (used_last (later old) old.open_chunk turned.open_chunk b refl ∙ n) i l ∙ ap (λ l. run_entries meaning l zeros b i) (sym turned_listed);
           names = turned_all (NamesStaging script old.blocks) (λ h. h) s.names;
           elsewhere = subst WritesElsewhere (sym (segments_handed turned)) (pairs_last Elsewhere front old.open_chunk turned.open_chunk (λ x h. h) (subst WritesElsewhere (segments_handed old) s.elsewhere));
         };
@@ -139,7 +139,9 @@ module _ (meaning : Meaning) (reading : Reading) (script : Script) (old : Core) 
         live = g.live;
         totals =
             subst (Totals (run_world meaning (listed turned) empty).counts old.commands) (sym after)
-            (record { total = (quiet before).total ∙ (subst (λ l. Totals (run_world meaning l empty).counts old.commands before) (sym turned_listed) g.totals).total });
+            (let t : Totals (run_world meaning (listed turned) empty).counts old.commands before =
+            subst (λ l. Totals (run_world meaning l empty).counts old.commands before) (sym turned_listed) g.totals in
+            record { total = (quiet before).total ∙ t.total; above = t.above });
         replies = g.replies;
       }
 

@@ -98,7 +98,7 @@ SnapsRight meaning earlier (m ∷ ms) after =
 -- nor the open one uses it
 abbrev pub CopiesRight : Meaning → Script → List Entry → List Segment → (ℕ → ℕ → ℕ) → (ℕ → Option ℕ) → Type 0
 CopiesRight meaning script es after copies blocks =
-    (r b : ℕ) → script.is_staging r ≡ true → blocks r ≡ Some b → used_in after b ≡ false → (i : ℕ) → copies b i ≡ run_entries meaning es zeros b i
+    (r b : ℕ) → script.is_staging r ≡ true → blocks r ≡ Some b → used_in after b ≡ false → (i : ℕ) → i < script.size r → copies b i ≡ run_entries meaning es zeros b i
 
 -- a segment names the whole of each live staging buffer that it binds
 abbrev pub NamesStaging : Script → (ℕ → Option ℕ) → Segment → Type 0
@@ -163,9 +163,10 @@ pub record Sound (meaning : Meaning) (reading : Reading) (script : Script) (core
   pub names : AllByRecursion (NamesStaging script core.blocks) (segments core)
   pub elsewhere : WritesElsewhere (segments core)
 
--- a query's count is the invocations of the commands since it was begun; the totals are those of the listing's commands
+-- the invocations so far are those of the listing's commands, which have the numbers up to this one
 pub record Totals (counts : ℕ → ℕ) (commands : ℕ) (state : InOrder) : Type 0 where
   pub total : state.total ≡ sum_from counts 1 commands
+  pub above : (n : ℕ) → commands < n → counts n ≡ 0
 
 -- the call is asked at this place of the script
 pub record IsAsked (script : Script) (call : ℕ) (ask : Ask) (used : Option ℕ) : Type 0 where

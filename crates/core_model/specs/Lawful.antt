@@ -8,7 +8,7 @@ use Rattle.vk_types.specs.Memory.{range}
 use Rattle.vk_types.specs.Hazards.{touch, write_access, work_touches, cond_touches, is_touched}
 use Rattle.vk_types.specs.Effects.{Meaning}
 use Rattle.core_model.specs.Script.{Play, Create, Discard, No_overwrite, Stage, Command, Destroy, Create_shader, Mark_query, Set_state, Ask, Bytes, Count, Constant, Turn, Refused, Passed, Flushed, Asked, Item, Script, at_start, in_order}
-use Rattle.core_model.specs.Chunking.{call_of}
+use Rattle.core_model.specs.Chunking.{call_of, ends_call, is_entry}
 use Rattle.core_model.specs.CoreState.{class_length}
 use Rattle.core_model.specs.Owners.{in_ranges}
 
@@ -128,11 +128,24 @@ abbrev pub ClassFits : Script → ℕ → Option ℕ → Type 0
 ClassFits script buffer None = Unit {0}
 ClassFits script buffer (Some class) = (class < 8) × (script.size buffer ≤ class_length class)
 
+-- what may come behind a turn: a later call, or, where its call goes on, an item of the same
+abbrev pub ComesNext : Turn → Turn → Type 0
+ComesNext t u = (ends_call t ≡ true → call_of t < call_of u) × (ends_call t ≡ false → (is_entry u ≡ true) × (call_of u ≡ call_of t))
+
+-- what is asked for: bytes that a live staging buffer has
+abbrev pub AsksRightly : Meaning → Script → List Turn → Ask → Type 0
+AsksRightly meaning script front (Bytes source) = Fits meaning script front source × (script.is_staging source.block ≡ true) × (source.from < source.to)
+AsksRightly meaning script front (Count query) = Unit {0}
+AsksRightly meaning script front (Constant value) = Unit {0}
+
 pub record IsLawful (meaning : Meaning) (script : Script) : Type 0 where
-  -- calls do not fall from turn to turn
-  pub calls : (front : List Turn) (t u : Turn) (back : List Turn) → script.turns ≡ front ++ t ∷ u ∷ back → call_of t ≤ call_of u
+  -- calls are numbered from 1 on, and rise from turn to turn, where no list goes on
+  pub numbers : (front : List Turn) (t : Turn) (back : List Turn) → script.turns ≡ front ++ t ∷ back → 0 < call_of t
+  pub calls : (front : List Turn) (t u : Turn) (back : List Turn) → script.turns ≡ front ++ t ∷ u ∷ back → ComesNext t u
   pub uses : (front : List Turn) (call : ℕ) (ask : Ask) (used : Option ℕ) (may_pend : Bool) (back : List Turn)
       → script.turns ≡ front ++ Asked call ask used may_pend ∷ back → UsesRightly front call ask used
+  pub asks : (front : List Turn) (call : ℕ) (ask : Ask) (used : Option ℕ) (may_pend : Bool) (back : List Turn)
+      → script.turns ≡ front ++ Asked call ask used may_pend ∷ back → AsksRightly meaning script front ask
   pub plays : (front : List Turn) (call item : ℕ) (ends : Bool) (play : Play) (bound : List Range) (back : List Turn)
       → script.turns ≡ front ++ Item call item ends play bound ∷ back → PlaysRightly meaning script front call play
   -- what is bound, and what a command touches, fits and has a byte, and what it touches is bound

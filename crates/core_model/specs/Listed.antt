@@ -5,6 +5,7 @@ use Rattle.vk_types.specs.declared.command.Command as c
 use Rattle.vk_types.specs.declared.op.VkOp.{VkOp}
 use Rattle.vk_types.specs.declared.op.VkOp.TheVariants as op
 use Rattle.vk_types.specs.Effects.{is_host}
+use Rattle.vk_types.specs.Listing.{AreContents}
 use Rattle.vk_types.specs.BarrierCauses.{recent_after, barriers_from}
 use Rattle.vk_types.specs.Entries.{Entry, Counts, next, after_host, after_barrier, after_submit, after_fence, rest_of, entries_from, start_counts}
 use Rattle.vk_types.specs.RunListing.{IsNumbered, IsWhole}
@@ -111,7 +112,8 @@ pub record IsListed (staging : ℕ → Bool) (listing ops : List VkOp) (contents
   pub since : (after_ops (after_ops nothing_listed listing) ops).recent ≡ recent
   pub lists : (after_ops (after_ops nothing_listed listing) ops).batch ≡ device_commands commands
   pub reads : ReadsStaging staging listing
-  -- the host wrote all its bytes, and the entries are these
+  -- the host wrote all its bytes, as long as their ranges, and the entries are these
+  pub filled : AreContents listing contents
   pub used : contents_after contents listing ≡ []
   pub entries : plain_entries start_counts contents listing ≡ acts
   pub works : plain_entries (after_counts start_counts listing) [] ops ≡ commands
