@@ -1,5 +1,5 @@
 -- Work on blocks does to the bytes of buffers what the same work on buffers does in order.
-use Rattle.std.proofs.Common.{◌≡◌, ℕ, ◌+◌, ◌-◌, ◌*◌, ◌/◌, ◌%◌, ◌<◌, Bool, true, false, cond, ◌&&◌, ◌||◌, ◌==◌, nat_lt, nat_le, List, [], ◌∷◌, ◌++◌, map, refl, sym, ap, ◌∙◌, inl, inr, Option, Some, None, arith}
+use Rattle.std.proofs.Common.{◌≡◌, ℕ, ◌+◌, ◌-◌, ◌*◌, ◌/◌, ◌%◌, ◌<◌, Bool, true, false, cond, ◌&&◌, ◌||◌, ◌==◌, nat_lt, nat_le, List, [], ◌∷◌, map, refl, sym, ap, ◌∙◌, inl, inr, Option, Some, None, arith}
 use mathlib.Core.Path.{fun_ext}
 use Rattle.std.proofs.lemmas.Bool.{both_ways, cases_Bool, ltb-true, eqb-true, eq-eqb}
 use Rattle.dx_types.specs.declared.range.Range.{Range}
@@ -14,7 +14,7 @@ use Rattle.vk_types.specs.declared.command.Cond.{Cond}
 use Rattle.vk_types.specs.Lists.{numbers_from}
 use Rattle.vk_types.specs.Memory.{Memory, covers, put, byte_of, word_of, byte_in, byte_in_words, number_at, or_zero}
 use Rattle.vk_types.specs.Hazards.{groups_touches, slot_touch, work_touches, cond_touches, is_touched}
-use Rattle.vk_types.specs.Effects.{SlotWords, Meaning, words_in, is_constant, is_srv, is_uav, slot_words, slots_words, group_counts, put_slot, put_slots, work_effect, work_count, is_skipped}
+use Rattle.vk_types.specs.Effects.{Meaning, words_in, is_constant, is_srv, is_uav, slot_words, slots_words, group_counts, put_slot, put_slots, work_effect, work_count, is_skipped}
 use Rattle.vk_types.proofs.Local.{covered, touched_front, touched_back}
 use Rattle.core_model.specs.Renaming.{BlockMap, block_of, range_on, slot_on, groups_on, work_on, cond_on}
 use Rattle.core_model.proofs.Binding.{or_left, or_right}

@@ -3,22 +3,19 @@ use Rattle.std.proofs.Common.{◌≡◌, ℕ, suc, ◌<◌, ◌≤◌, Bool, tru
 use Rattle.std.specs.List.{list_any, AllByRecursion}
 use Rattle.std.proofs.lemmas.Bool.{both_ways, cases_Bool, lt-ltb, le-leb, cases_lt}
 use Rattle.std.proofs.lemmas.List.Folds.{list_any-append}
-use Rattle.vk_types.specs.declared.command.Work.{Work}
-use Rattle.vk_types.specs.declared.command.Cond.{Cond}
 use Rattle.vk_types.specs.declared.touch.Touch.{Touch}
-use Rattle.vk_types.specs.Lists.{Pairwise}
 use Rattle.vk_types.specs.Memory.{zeros}
 use Rattle.vk_types.specs.Hazards.{touches, conflict, is_touched, lists_conflict}
 use Rattle.vk_types.specs.Effects.{Meaning, Device, act_touches, act_effect, is_host}
 use Rattle.vk_types.specs.BarrierCauses.{lesser, least_of, least_conflict, caused, since_barrier}
 use Rattle.vk_types.specs.Entries.{Entry, entry_before, entries_conflict, EntriesCovered, run_entries}
-use Rattle.vk_types.proofs.Lists.{all_front, all_back, all_append, all_map, pairs_append}
+use Rattle.vk_types.proofs.Lists.{all_append, all_map, pairs_append}
 use Rattle.core_model.specs.Script.{Script}
-use Rattle.core_model.specs.CoreState.{Segment, entries, flat, Core, later, taken_count, finished_count, handed_count, open_number}
+use Rattle.core_model.specs.CoreState.{Segment, entries, flat, Core, later, taken_count, finished_count, open_number}
 use Rattle.core_model.specs.Adding.{has_block, epoch_after, with_command}
 use Rattle.core_model.specs.OtherParts.{used_in}
 use Rattle.core_model.specs.Worlds.{World, world_step, run_world}
-use Rattle.core_model.specs.Invariant.{Allows, Known, KnownIn, IsShaped, BindsTouches, IsFilled}
+use Rattle.core_model.specs.Invariant.{Allows, KnownIn, IsFilled}
 use Rattle.core_model.proofs.Worlds.{run_world-append}
 use Rattle.core_model.proofs.Turning.{used_last}
 use Rattle.core_model.proofs.Binding.{or_left, or_right}

@@ -17,6 +17,11 @@ pub mod MoreListed
 pub mod Alike
 pub mod Opened
 pub mod Commanding
+pub mod Uses
+pub mod Taking
+pub mod Counting
+pub mod Working
+pub mod Writing
 pub mod Steps
 pub mod Choices
 pub mod FromCommand

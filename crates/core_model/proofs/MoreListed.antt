@@ -1,21 +1,20 @@
 -- One act more in the listing of a core: a host write or a host read behind it, or a command among the open chunk's operations,
 -- with the barrier that its hazards cause.
-use Rattle.std.proofs.Common.{◌≡◌, ℕ, suc, ◌+◌, ◌-◌, ◌<◌, Bool, true, false, cond, List, [], ◌∷◌, ◌++◌, map, length, refl, sym, ap, ◌∙◌, subst, Option, Some, None, arith}
+use Rattle.std.proofs.Common.{◌≡◌, ℕ, suc, ◌-◌, Bool, true, List, [], ◌∷◌, ◌++◌, map, length, refl, sym, ap, ◌∙◌, subst, Option, Some, None}
 use Rattle.std.specs.List.{AllByRecursion}
 use Rattle.dx_types.specs.declared.range.Range.{Range}
 use Rattle.vk_types.specs.declared.op.VkOp.{VkOp}
-use Rattle.vk_types.specs.Effects.{Host_write, Device, Host_read, is_host}
+use Rattle.vk_types.specs.Effects.{Host_write, Device, Host_read}
 use Rattle.vk_types.specs.BarrierCauses.{least_conflict, caused, barrier_before, since_barrier, maybe_barrier, barriers_from}
-use Rattle.vk_types.specs.Entries.{Entry, Counts, next, after_host, after_barrier, first_of, rest_of, start_counts}
+use Rattle.vk_types.specs.Entries.{Entry, Counts, next, after_host, after_barrier, start_counts}
 use Rattle.vk_types.specs.Listing.{written_ranges, AreContents}
 use Rattle.vk_types.specs.RunListing.{IsNumbered, IsWhole}
 use Rattle.vk_types.proofs.Lists.{all_append}
 use Rattle.core_model.specs.AppActs.{device_commands, act_commands}
 use Rattle.core_model.specs.Adding.{epoch_after}
-use Rattle.core_model.specs.RunReads.{ReadsStaging}
-use Rattle.core_model.specs.Listed.{ListState, nothing_listed, after_op, after_ops, GoesOn, plain, plain_entries, is_of_device, after_count, after_counts, contents_after, IsCounted, IsListed}
+use Rattle.core_model.specs.Listed.{ListState, nothing_listed, after_op, after_ops, GoesOn, plain_entries, is_of_device, after_count, after_counts, contents_after, IsCounted, IsListed}
 use Rattle.core_model.proofs.Growing.{after_append, goes_on, reads_append, device_plain, entries_append, ranges_append, contents_kept, contents_append, device_contents}
-use Rattle.core_model.proofs.CoreListing.{counts_append, device_counts, epoch_alike}
+use Rattle.core_model.proofs.CoreListing.{counts_append, epoch_alike}
 use Rattle.vk_types.specs.declared.command.Command as c
 use Rattle.vk_types.specs.declared.op.VkOp.TheVariants as op
 

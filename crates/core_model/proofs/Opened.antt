@@ -1,22 +1,18 @@
 -- What is known of the open chunk and of what was listed, with the chunks before it; and that this is all that a step of App
 -- owes which adds to them.
-use Rattle.std.proofs.Common.{◌≡◌, ℕ, suc, ◌+◌, ◌<◌, ◌≤◌, Bool, true, false, ◌||◌, List, [], ◌∷◌, ◌++◌, length, refl, sym, ap, ◌∙◌, subst, inl, inr, Some, arith, append_assoc, append-nil, length-append}
+use Rattle.std.proofs.Common.{◌≡◌, ℕ, suc, ◌+◌, ◌≤◌, true, List, [], ◌∷◌, ◌++◌, length, refl, sym, ap, ◌∙◌, subst, Some, arith, append-nil, length-append}
 use Rattle.std.specs.List.{AllByRecursion}
-use Rattle.std.proofs.lemmas.Bool.{cases_Bool}
 use Rattle.dx_types.specs.declared.range.Range.{Range}
 use Rattle.vk_types.specs.declared.message.Placed.{Placed}
 use Rattle.vk_types.specs.declared.message.QueryMark.{QueryMark}
-use Rattle.vk_types.specs.Lists.{Pairwise}
-use Rattle.vk_types.specs.Memory.{zeros}
 use Rattle.vk_types.specs.Effects.{Meaning}
-use Rattle.vk_types.specs.Entries.{Entry, EntriesCovered, run_entries}
-use Rattle.vk_types.proofs.Lists.{all_front, all_back, all_append, all_map, all_true, pairs_front, pairs_append, all_across}
+use Rattle.vk_types.specs.Entries.{Entry, EntriesCovered}
+use Rattle.vk_types.proofs.Lists.{all_front, all_back, all_append, all_map, pairs_front, pairs_append, all_across}
 use Rattle.core_model.specs.Script.{Turn, Script}
 use Rattle.core_model.specs.Chunking.{chunks, cut}
 use Rattle.core_model.specs.CoreState.{Segment, entries, flat, Owner, Core, segments, later, listed, taken_count, finished_count, handed_count, open_number}
 use Rattle.core_model.specs.Readings.{Reading}
 use Rattle.core_model.specs.Adding.{has_block}
-use Rattle.core_model.specs.OtherParts.{used_in}
 use Rattle.core_model.specs.Listed.{IsListed, IsCounted}
 use Rattle.core_model.specs.Invariant.{Allows, IsSince, KnownIn, Numbered, IsShaped, BindsTouches, IsFilled, CopiesRight, NamesStaging, WritesElsewhere, listed_acts, turns_of, handed, Sound}
 use Rattle.core_model.proofs.Worlds.{flat-append}

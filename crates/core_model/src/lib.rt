@@ -5,6 +5,8 @@
 ghost use Rattle.std.specs.Prelude.{◌≡◌, ℕ, Bool, true, false, Option, List, [], ◌∷◌, ◌++◌};
 ghost use Rattle.dx_types.specs.declared.range.Range.{Range};
 ghost use Rattle.vk_types.specs.Covered.{Covered};
+ghost use Rattle.vk_types.specs.declared.command.Work.{Work};
+ghost use Rattle.vk_types.specs.declared.command.Cond.{Cond};
 ghost use Rattle.vk_types.specs.declared.op.VkOp.{VkOp};
 ghost use Rattle.vk_types.specs.Effects.{Meaning};
 ghost use Rattle.vk_types.specs.Entries.{EntriesCovered, EntriesKeep, run_entries, start_counts};
@@ -13,7 +15,7 @@ ghost use Rattle.vk_types.specs.Allowed.{IsAllowed, outcome};
 ghost use Rattle.vk_types.specs.Lists.{IsReordering};
 ghost use Rattle.vk_types.specs.Memory.{zeros};
 ghost use Rattle.vk_types.specs.RunListing.{IsRunListing, SameOrder};
-ghost use Rattle.core_model.specs.Script.{Destroy, Create_shader, Mark_query, Set_state, Ask, Constant, Turn, Asked, Item, is_plain, Script};
+ghost use Rattle.core_model.specs.Script.{Command, Destroy, Create_shader, Mark_query, Set_state, Ask, Constant, Turn, Asked, Item, is_plain, Script};
 ghost use Rattle.core_model.specs.Chunking.{is_due, cut, chunks};
 ghost use Rattle.core_model.specs.CoreState.{Core, start, flat, rests, on_device, listed, done, Still_said, End_said};
 ghost use Rattle.core_model.specs.Adding.{with_turn, with_reply};
@@ -61,7 +63,7 @@ pub fn counts_order_runs()
 
 /// The invariant of runs holds as one begins, and these steps keep it, by any choice and in each reading: App takes posts, hands
 /// a chunk over, goes past calls that add no entry, answers a call as pending or by a constant, takes an item that creates a
-/// shader, marks a query, only binds or destroys a buffer, or ends; and each step of each other part.
+/// shader, marks a query, only binds, runs a command or destroys a buffer, or ends; and each step of each other part.
 pub fn steps_keep_the_invariant()
     ensures start { (meaning : Meaning) (reading : Reading) (script : Script) → Good meaning reading script (start script) }
     ensures posts { (meaning : Meaning) (reading : Reading) (script : Script) (n : ℕ) (old mid : Core)
@@ -98,6 +100,11 @@ pub fn steps_keep_the_invariant()
         (call item : ℕ) (ends : Bool) (bound : List Range) (turns : List Turn) (new : Core)
         → old.future ≡ Item call item ends Set_state bound ∷ turns → is_due script old.open_chunk.turns old.future ≡ false
         → TakesTurn reading script (Item call item ends Set_state bound) turns old new
+        → Good meaning reading script old → Good meaning reading script new }
+    ensures commands { (meaning : Meaning) (reading : Reading) (script : Script) → IsLawful meaning script → (old : Core)
+        (call item : ℕ) (ends : Bool) (work : Work) (skip : Option Cond) (bound : List Range) (turns : List Turn) (new : Core)
+        → old.future ≡ Item call item ends (Command work skip) bound ∷ turns → is_due script old.open_chunk.turns old.future ≡ false
+        → TakesTurn reading script (Item call item ends (Command work skip) bound) turns old new
         → Good meaning reading script old → Good meaning reading script new }
     ensures destroys { (meaning : Meaning) (reading : Reading) (script : Script) (old : Core)
         (call item : ℕ) (ends : Bool) (buffer : ℕ) (bound : List Range) (turns : List Turn) (new : Core)

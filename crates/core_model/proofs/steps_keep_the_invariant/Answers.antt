@@ -3,6 +3,7 @@ use Rattle.core_model.proofs.Posting.{posts_good}
 use Rattle.core_model.proofs.Handing.{hand_over_good}
 use Rattle.core_model.proofs.Turning.{plain_good, pending_good, constant_good, shader_good, mark_good, end_good}
 use Rattle.core_model.proofs.Binding.{bind_good}
+use Rattle.core_model.proofs.Working.{work_good}
 use Rattle.core_model.proofs.Destroying.{destroy_good}
 use Rattle.core_model.proofs.Steps.{others_good}
 use Rattle.core_model.proofs.steps_keep_the_invariant.Goals as goal
@@ -18,6 +19,7 @@ returns c = record {
   shaders = shader_good;
   queries = mark_good;
   bindings = bind_good;
+  commands = work_good;
   destroys = destroy_good;
   ended = end_good;
   others = others_good;
