@@ -18,7 +18,7 @@ use Rattle.core_model.proofs.Worlds.{flat-append}
 use Rattle.core_model.proofs.Segments.{numbered_back, numbered_above, messages_length}
 
 -- a touch of a block that has a byte touches a byte of the block
-touches_byte : (b : ℕ) (ts : List Touch) → AllByRecursion (λ t. t.range.from < t.range.to) ts → list_any (λ t. t.range.block == b) ts ≡ true
+pub touches_byte : (b : ℕ) (ts : List Touch) → AllByRecursion (λ t. t.range.from < t.range.to) ts → list_any (λ t. t.range.block == b) ts ≡ true
     → (i : ℕ) × (is_touched ts b i ≡ true)
 touches_byte b [] f h = absurd (cc h)
 touches_byte b (t ∷ ts) f h =

@@ -21,7 +21,15 @@ pub mod Uses
 pub mod Taking
 pub mod Counting
 pub mod Working
+pub mod Restaging
+pub mod Padding
 pub mod Writing
+pub mod Keeping
+pub mod Overwriting
+pub mod Giving
+pub mod Discarding
+pub mod Creating
+pub mod Staging
 pub mod Steps
 pub mod Choices
 pub mod FromCommand

@@ -5,6 +5,7 @@ use Rattle.std.specs.List.{AllByRecursion}
 use Rattle.dx_types.specs.declared.range.Range.{Range}
 use Rattle.vk_types.specs.declared.message.Placed.{Placed}
 use Rattle.vk_types.specs.declared.message.QueryMark.{QueryMark}
+use Rattle.vk_types.specs.declared.op.VkOp.{VkOp}
 use Rattle.vk_types.specs.Effects.{Meaning}
 use Rattle.vk_types.specs.Entries.{Entry, EntriesCovered}
 use Rattle.vk_types.proofs.Lists.{all_front, all_back, all_append, all_map, pairs_front, pairs_append, all_across}
@@ -252,3 +253,26 @@ module _ (meaning : Meaning) (script : Script) (core : Core) (o : Opened meaning
         names_open = names;
         elsewhere = o.elsewhere;
       }
+
+  -- a listing with a fence more
+  pub opened_fenced : (listing : List VkOp) (fence : ℕ)
+      → IsListed core.is_staging listing core.open_chunk.ops core.contents core.recent core.open_chunk.commands (open_number core) (listed_acts core)
+      → IsCounted listing core.open_chunk.ops fence core.host_acts core.epoch → fence ≤ finished_count core → Opened meaning script (record core { listing = listing; fence = fence })
+  opened_fenced listing fence grows counted below = record {
+    grows = grows;
+    counted = counted;
+    fence = below;
+    covered = o.covered;
+    known = o.known;
+    known_open = o.known_open;
+    since = o.since;
+    numbered = o.numbered;
+    shaped = o.shaped;
+    binds = o.binds;
+    filled = o.filled;
+    filled_open = o.filled_open;
+    copies = o.copies;
+    names = o.names;
+    names_open = o.names_open;
+    elsewhere = o.elsewhere;
+  }

@@ -145,7 +145,7 @@ module _ (meaning : Meaning) (reading : Reading) (script : Script) (old : Core) 
         replies = g.replies;
       }
 
-shown_same : (s : InOrder) → SameShown s s
+pub shown_same : (s : InOrder) → SameShown s s
 shown_same s = record { live = refl; bytes = refl; total = refl }
 
 -- a pipeline stands behind the listing

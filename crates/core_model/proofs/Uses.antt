@@ -53,7 +53,7 @@ works_on blocks (work.Dispatch shader counts slots) =
     ∙ ap (λ l. map (touch_on blocks) (groups_touches counts) ++ l) (slots_on blocks slots)
     ∙ sym (map_append (touch_on blocks) (groups_touches counts) (map slot_touch slots))
 
-conds_on : (blocks : BlockMap) (c : Option Cond) → cond_touches (cond_on blocks c) ≡ map (touch_on blocks) (cond_touches c)
+pub conds_on : (blocks : BlockMap) (c : Option Cond) → cond_touches (cond_on blocks c) ≡ map (touch_on blocks) (cond_touches c)
 conds_on blocks None = refl
 conds_on blocks (Some c) = refl
 

@@ -22,3 +22,4 @@ pub mod Free
 pub mod RunReads
 pub mod Listed
 pub mod Invariant
+pub mod Kept

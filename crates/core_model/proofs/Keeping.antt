@@ -1,0 +1,399 @@
+-- How what holds beside the invariant is kept: where blocks and pages stand, as owners change.
+use Rattle.std.proofs.Common.{◌≡◌, ℕ, zero, suc, ◌+◌, ◌*◌, ◌<◌, ◌≤◌, Bool, true, false, cond, ◌||◌, ◌==◌, List, [], ◌∷◌, ◌++◌, refl, sym, ap, ◌∙◌, subst, inl, inr, Option, Some, None, slice_get, slice_set, arith}
+use Rattle.std.specs.List.{AllByRecursion}
+use Rattle.std.proofs.lemmas.Bool.{both_ways, cases_Bool, or_cases, eqb-true, eq-eqb}
+use Rattle.dx_types.specs.declared.range.Range.{Range}
+use Rattle.vk_types.specs.Lists.{Pairwise}
+use Rattle.vk_types.proofs.Lists.{all_map}
+use Rattle.core_model.specs.Script.{Turn, Script}
+use Rattle.core_model.specs.CoreState.{Page, Segment, Owner, Unmade, Home, Returning, Spare, Live, Retired, Paged, Dropped, has_class, Board, Newest, Pool}
+use Rattle.core_model.specs.Owners.{in_ranges, bind_owner, retire_owner, is_block, finish_owner, return_owner}
+use Rattle.core_model.specs.Adding.{has_block}
+use Rattle.core_model.specs.Kept.{IsPageOf, IsFreeFrom, IsTakenBy, IsOfBuffer, IsMade, bound_at, ArePaged, IsNewest, PlacesRight, PagesRight, BlocksRight, Names, BoundRight}
+
+-- Owners that change by a function of the block and its owner ------------------------------------------------------------------
+
+-- what such a change keeps
+pub record Keeps (f : ℕ → Owner → Owner) : Type 0 where
+  pub unmade : (b : ℕ) → f b Unmade ≡ Unmade
+  pub home : (b k : ℕ) → f b (Home k) ≡ Home k
+  pub spare : (b : ℕ) → f b Spare ≡ Spare
+  pub taken : (fence b : ℕ) (o : Owner) → IsTakenBy fence o → IsTakenBy fence (f b o)
+  pub buffer : (b : ℕ) (o : Owner) → has_class b ≡ false → IsOfBuffer o → IsOfBuffer (f b o)
+  pub made : (b : ℕ) (o : Owner) → IsMade o → IsMade (f b o)
+
+module _ (f : ℕ → Owner → Owner) (keeps : Keeps f) where
+  pub places_by : (board : Board) (pool : Pool) (own : ℕ → Owner) (fence : ℕ) → PlacesRight board pool own fence → PlacesRight board pool (λ b. f b (own b)) fence
+  places_by board pool own fence p = record {
+    home = λ class place b h. let x = p.home class place b h in (x.0, x.1, x.2, ap (f b) x.3 ∙ keeps.home b x.2);
+    apart = p.apart;
+    unmade = λ class k l m n. ap (f (class * 64 + k)) (p.unmade class k l m n) ∙ keeps.unmade (class * 64 + k);
+    next = p.next;
+    fresh = λ b l. ap (f b) (p.fresh b l) ∙ keeps.unmade b;
+    spare = all_map (λ q. own q.block ≡ Spare) (λ q. f q.block (own q.block) ≡ Spare) (λ q e. ap (f q.block) e ∙ keeps.spare q.block) pool.spare p.spare;
+    spares = p.spares;
+    taken = λ b. keeps.taken fence b (own b) (p.taken b);
+  }
+
+  pub blocks_by : (script : Script) (blocks : ℕ → Option ℕ) (st : ℕ → Bool) (own : ℕ → Owner) → BlocksRight script blocks st own → BlocksRight script blocks st (λ b. f b (own b))
+  blocks_by script blocks st own h = record { alike = h.alike; held = λ b s. let x = h.held b s in (keeps.buffer b (own b) x.1 x.0, x.1) }
+
+  pub names_by : (st : ℕ → Bool) (own : ℕ → Owner) (staging bound : List Range) → Names st own staging bound → Names st (λ b. f b (own b)) staging bound
+  names_by st own staging bound h = (h.0, (λ b n. keeps.made b (own b) (h.1 b n)))
+
+  pub named_by : (st : ℕ → Bool) (own : ℕ → Owner) (ss : List Segment) → AllByRecursion (λ s. Names st own s.staging s.bound) ss → AllByRecursion (λ s. Names st (λ b. f b (own b)) s.staging s.bound) ss
+  named_by st own ss h = all_map (λ s. Names st own s.staging s.bound) (λ s. Names st (λ b. f b (own b)) s.staging s.bound) (λ s n. names_by st own s.staging s.bound n) ss h
+
+-- pages stay pages of chunks behind k
+pub paged_by : (f : ℕ → Owner → Owner) (k : ℕ) (own : ℕ → Owner) (ss : List Segment) → ((b n : ℕ) (o : Owner) → k < n → IsPageOf n o → IsPageOf n (f b o)) → ArePaged k own ss → ArePaged k (λ b. f b (own b)) ss
+paged_by f k own [] keep h = tt
+paged_by f k own (s ∷ ss) keep h = (
+  all_map (λ p. IsPageOf (suc k) (own p.block)) (λ p. IsPageOf (suc k) (f p.block (own p.block))) (λ p q. keep p.block (suc k) (own p.block) (omega arith) q) s.pages h.0,
+  h.1,
+  paged_by f (suc k) own ss (λ b n o l q. keep b n o (omega (arith, l)) q) h.2,
+)
+
+-- Ranges are bound ----------------------------------------------------------------------------------------------------------------
+
+bind_taken : (rs : List Range) (fence b : ℕ) (o : Owner) → IsTakenBy fence o → IsTakenBy fence (bind_owner rs b o)
+bind_taken rs fence b Unmade h = h
+bind_taken rs fence b (Home k) h = h
+bind_taken rs fence b (Returning k) h = h
+bind_taken rs fence b Spare h = h
+bind_taken rs fence b (Live buffer since bound) h = h
+bind_taken rs fence b (Retired k since bound) h = h
+bind_taken rs fence b (Paged k since bound) h = h
+bind_taken rs fence b Dropped h = h
+
+bind_buffer : (rs : List Range) (b : ℕ) (o : Owner) → IsOfBuffer o → IsOfBuffer (bind_owner rs b o)
+bind_buffer rs b Unmade h = h
+bind_buffer rs b (Home k) h = h
+bind_buffer rs b (Returning k) h = h
+bind_buffer rs b Spare h = h
+bind_buffer rs b (Live buffer since bound) h = h
+bind_buffer rs b (Retired k since bound) h = h
+bind_buffer rs b (Paged k since bound) h = h
+bind_buffer rs b Dropped h = h
+
+bind_made : (rs : List Range) (b : ℕ) (o : Owner) → IsMade o → IsMade (bind_owner rs b o)
+bind_made rs b Unmade h = h
+bind_made rs b (Home k) h = h
+bind_made rs b (Returning k) h = h
+bind_made rs b Spare h = h
+bind_made rs b (Live buffer since bound) h = h
+bind_made rs b (Retired k since bound) h = h
+bind_made rs b (Paged k since bound) h = h
+bind_made rs b Dropped h = h
+
+pub bind_page : (rs : List Range) (b n : ℕ) (o : Owner) → IsPageOf n o → IsPageOf n (bind_owner rs b o)
+bind_page rs b n Unmade h = h
+bind_page rs b n (Home k) h = h
+bind_page rs b n (Returning k) h = h
+bind_page rs b n Spare h = h
+bind_page rs b n (Live buffer since bound) h = h
+bind_page rs b n (Retired k since bound) h = h
+bind_page rs b n (Paged k since bound) h = h
+bind_page rs b n Dropped h = h
+
+pub bind_keeps : (rs : List Range) → Keeps (bind_owner rs)
+bind_keeps rs = record {
+  unmade = λ b. refl;
+  home = λ b k. refl;
+  spare = λ b. refl;
+  taken = bind_taken rs;
+  buffer = λ b o c h. bind_buffer rs b o h;
+  made = bind_made rs;
+}
+
+pub bind_free : (rs : List Range) (b at at' : ℕ) (o : Owner) → at ≤ at' → ((i : ℕ) → at' ≤ i → in_ranges rs b i ≡ false) → IsFreeFrom at o → IsFreeFrom at' (bind_owner rs b o)
+bind_free rs b at at' Unmade l n h = h
+bind_free rs b at at' (Home k) l n h = h
+bind_free rs b at at' (Returning k) l n h = h
+bind_free rs b at at' Spare l n h = h
+bind_free rs b at at' (Live buffer since bound) l n h = h
+bind_free rs b at at' (Retired k since bound) l n h = h
+bind_free rs b at at' (Paged k since bound) l n h = λ i u. neither (bound i) (in_ranges rs b i) (h i (omega (arith, l, u))) (n i u)
+  where
+    neither : (x y : Bool) → x ≡ false → y ≡ false → (x || y) ≡ false
+    neither x y e d = ap (λ c. c || y) e ∙ d
+bind_free rs b at at' Dropped l n h = h
+
+pub bind_bound : (rs : List Range) (b i : ℕ) (o : Owner) → bound_at (bind_owner rs b o) i ≡ true → (bound_at o i || in_ranges rs b i) ≡ true
+bind_bound rs b i Unmade h = absurd (cc h)
+bind_bound rs b i (Home k) h = absurd (cc h)
+bind_bound rs b i (Returning k) h = absurd (cc h)
+bind_bound rs b i Spare h = absurd (cc h)
+bind_bound rs b i (Live buffer since bound) h = h
+bind_bound rs b i (Retired k since bound) h = absurd (cc h)
+bind_bound rs b i (Paged k since bound) h = absurd (cc h)
+bind_bound rs b i Dropped h = absurd (cc h)
+
+-- A block is retired --------------------------------------------------------------------------------------------------------------
+
+retire_taken : (n fence : ℕ) (o : Owner) → IsTakenBy fence o → IsTakenBy fence (retire_owner n o)
+retire_taken n fence Unmade h = h
+retire_taken n fence (Home k) h = h
+retire_taken n fence (Returning k) h = h
+retire_taken n fence Spare h = h
+retire_taken n fence (Live buffer since bound) h = tt
+retire_taken n fence (Retired k since bound) h = h
+retire_taken n fence (Paged k since bound) h = h
+retire_taken n fence Dropped h = h
+
+retire_buffer : (n : ℕ) (o : Owner) → IsOfBuffer o → IsOfBuffer (retire_owner n o)
+retire_buffer n Unmade h = h
+retire_buffer n (Home k) h = h
+retire_buffer n (Returning k) h = h
+retire_buffer n Spare h = h
+retire_buffer n (Live buffer since bound) h = h
+retire_buffer n (Retired k since bound) h = h
+retire_buffer n (Paged k since bound) h = h
+retire_buffer n Dropped h = h
+
+retire_made : (n : ℕ) (o : Owner) → IsMade o → IsMade (retire_owner n o)
+retire_made n Unmade h = h
+retire_made n (Home k) h = h
+retire_made n (Returning k) h = h
+retire_made n Spare h = h
+retire_made n (Live buffer since bound) h = h
+retire_made n (Retired k since bound) h = h
+retire_made n (Paged k since bound) h = h
+retire_made n Dropped h = h
+
+retire_page : (n m : ℕ) (o : Owner) → IsPageOf m o → IsPageOf m (retire_owner n o)
+retire_page n m Unmade h = h
+retire_page n m (Home k) h = h
+retire_page n m (Returning k) h = h
+retire_page n m Spare h = h
+retire_page n m (Live buffer since bound) h = absurd h
+retire_page n m (Retired k since bound) h = h
+retire_page n m (Paged k since bound) h = h
+retire_page n m Dropped h = h
+
+retire_free : (n at : ℕ) (o : Owner) → IsFreeFrom at o → IsFreeFrom at (retire_owner n o)
+retire_free n at Unmade h = h
+retire_free n at (Home k) h = h
+retire_free n at (Returning k) h = h
+retire_free n at Spare h = h
+retire_free n at (Live buffer since bound) h = h
+retire_free n at (Retired k since bound) h = h
+retire_free n at (Paged k since bound) h = h
+retire_free n at Dropped h = h
+
+retire_bound : (n i : ℕ) (o : Owner) → bound_at (retire_owner n o) i ≡ true → bound_at o i ≡ true
+retire_bound n i Unmade h = h
+retire_bound n i (Home k) h = h
+retire_bound n i (Returning k) h = h
+retire_bound n i Spare h = h
+retire_bound n i (Live buffer since bound) h = absurd (cc h)
+retire_bound n i (Retired k since bound) h = h
+retire_bound n i (Paged k since bound) h = h
+retire_bound n i Dropped h = h
+
+-- the block of an option, by a chunk
+abbrev pub retire : Option ℕ → ℕ → ℕ → Owner → Owner
+retire old n b o = cond (is_block old b) (retire_owner n o) o
+
+by_either : (P : Owner → Type 0) (c : Bool) (x y : Owner) → P x → P y → P (cond c x y)
+by_either P true x y h k = h
+by_either P false x y h k = k
+
+pub retire_keeps : (old : Option ℕ) (n : ℕ) → Keeps (retire old n)
+retire_keeps old n = record {
+  unmade = λ b. by_either (λ o. o ≡ Unmade) (is_block old b) Unmade Unmade refl refl;
+  home = λ b k. by_either (λ o. o ≡ Home k) (is_block old b) (Home k) (Home k) refl refl;
+  spare = λ b. by_either (λ o. o ≡ Spare) (is_block old b) Spare Spare refl refl;
+  taken = λ fence b o h. by_either (IsTakenBy fence) (is_block old b) (retire_owner n o) o (retire_taken n fence o h) h;
+  buffer = λ b o c h. by_either IsOfBuffer (is_block old b) (retire_owner n o) o (retire_buffer n o h) h;
+  made = λ b o h. by_either IsMade (is_block old b) (retire_owner n o) o (retire_made n o h) h;
+}
+
+pub retire_paged : (old : Option ℕ) (n b m : ℕ) (o : Owner) → IsPageOf m o → IsPageOf m (retire old n b o)
+retire_paged old n b m o h = by_either (IsPageOf m) (is_block old b) (retire_owner n o) o (retire_page n m o h) h
+
+pub retire_newest : (old : Option ℕ) (n b at : ℕ) (o : Owner) → IsFreeFrom at o → IsFreeFrom at (retire old n b o)
+retire_newest old n b at o h = by_either (IsFreeFrom at) (is_block old b) (retire_owner n o) o (retire_free n at o h) h
+
+pub retire_bounds : (old : Option ℕ) (n b i : ℕ) (o : Owner) → bound_at (retire old n b o) i ≡ true → bound_at o i ≡ true
+retire_bounds old n b i o h = by (is_block old b) h
+  where
+    by : (c : Bool) → bound_at (cond c (retire_owner n o) o) i ≡ true → bound_at o i ≡ true
+    by true h = retire_bound n i o h
+    by false h = h
+
+-- A post is made ------------------------------------------------------------------------------------------------------------------
+
+finish_taken : (n fence b : ℕ) (o : Owner) → IsTakenBy fence o → IsTakenBy fence (finish_owner n b o)
+finish_taken n fence b Unmade h = h
+finish_taken n fence b (Home k) h = h
+finish_taken n fence b (Returning k) h = h
+finish_taken n fence b Spare h = h
+finish_taken n fence b (Live buffer since bound) h = h
+finish_taken n fence b (Retired k since bound) h = by_either (IsTakenBy fence) (k == n) (cond (has_class b) (Returning k) Dropped) (Retired k since bound) (by_either (IsTakenBy fence) (has_class b) (Returning k) Dropped tt tt) tt
+finish_taken n fence b (Paged k since bound) h = h
+finish_taken n fence b Dropped h = h
+
+finish_buffer : (n b : ℕ) (o : Owner) → has_class b ≡ false → IsOfBuffer o → IsOfBuffer (finish_owner n b o)
+finish_buffer n b Unmade c h = h
+finish_buffer n b (Home k) c h = h
+finish_buffer n b (Returning k) c h = h
+finish_buffer n b Spare c h = h
+finish_buffer n b (Live buffer since bound) c h = h
+finish_buffer n b (Retired k since bound) c h = by_either IsOfBuffer (k == n) (cond (has_class b) (Returning k) Dropped) (Retired k since bound) (subst (λ x. IsOfBuffer (cond x (Returning k) Dropped)) (sym c) tt) tt
+finish_buffer n b (Paged k since bound) c h = h
+finish_buffer n b Dropped c h = h
+
+finish_made : (n b : ℕ) (o : Owner) → IsMade o → IsMade (finish_owner n b o)
+finish_made n b Unmade h = h
+finish_made n b (Home k) h = h
+finish_made n b (Returning k) h = h
+finish_made n b Spare h = h
+finish_made n b (Live buffer since bound) h = h
+finish_made n b (Retired k since bound) h = by_either IsMade (k == n) (cond (has_class b) (Returning k) Dropped) (Retired k since bound) (by_either IsMade (has_class b) (Returning k) Dropped tt tt) tt
+finish_made n b (Paged k since bound) h = h
+finish_made n b Dropped h = h
+
+pub finish_keeps : (n : ℕ) → Keeps (finish_owner n)
+finish_keeps n = record {
+  unmade = λ b. refl;
+  home = λ b k. refl;
+  spare = λ b. refl;
+  taken = finish_taken n;
+  buffer = finish_buffer n;
+  made = finish_made n;
+}
+
+pub finish_page : (n b m : ℕ) (o : Owner) → IsPageOf m o → IsPageOf m (finish_owner n b o)
+finish_page n b m Unmade h = h
+finish_page n b m (Home k) h = h
+finish_page n b m (Returning k) h = h
+finish_page n b m Spare h = h
+finish_page n b m (Live buffer since bound) h = h
+finish_page n b m (Retired k since bound) h = absurd h
+finish_page n b m (Paged k since bound) h = h
+finish_page n b m Dropped h = h
+
+pub finish_free : (n b at : ℕ) (o : Owner) → IsFreeFrom at o → IsFreeFrom at (finish_owner n b o)
+finish_free n b at Unmade h = h
+finish_free n b at (Home k) h = h
+finish_free n b at (Returning k) h = h
+finish_free n b at Spare h = h
+finish_free n b at (Live buffer since bound) h = h
+finish_free n b at (Retired k since bound) h = by_either (IsFreeFrom at) (k == n) (cond (has_class b) (Returning k) Dropped) (Retired k since bound) (by_either (IsFreeFrom at) (has_class b) (Returning k) Dropped tt tt) tt
+finish_free n b at (Paged k since bound) h = h
+finish_free n b at Dropped h = h
+
+pub finish_bound : (n b i : ℕ) (o : Owner) → bound_at (finish_owner n b o) i ≡ true → bound_at o i ≡ true
+finish_bound n b i Unmade h = h
+finish_bound n b i (Home k) h = h
+finish_bound n b i (Returning k) h = h
+finish_bound n b i Spare h = h
+finish_bound n b i (Live buffer since bound) h = h
+finish_bound n b i (Retired k since bound) h = by (k == n) (has_class b) h
+  where
+    by : (x y : Bool) → bound_at (cond x (cond y (Returning k) Dropped) (Retired k since bound)) i ≡ true → false ≡ true
+    by true true h = h
+    by true false h = h
+    by false y h = h
+finish_bound n b i (Paged k since bound) h = h
+finish_bound n b i Dropped h = h
+
+-- A post is taken -----------------------------------------------------------------------------------------------------------------
+
+return_taken : (n fence b : ℕ) (o : Owner) → IsTakenBy fence o → IsTakenBy fence (return_owner n o)
+return_taken n fence b Unmade h = h
+return_taken n fence b (Home k) h = h
+return_taken n fence b (Returning k) h = h
+return_taken n fence b Spare h = h
+return_taken n fence b (Live buffer since bound) h = h
+return_taken n fence b (Retired k since bound) h = h
+return_taken n fence b (Paged k since bound) h = by_either (IsTakenBy fence) (k == n) Spare (Paged k since bound) tt h
+return_taken n fence b Dropped h = h
+
+return_buffer : (n b : ℕ) (o : Owner) → has_class b ≡ false → IsOfBuffer o → IsOfBuffer (return_owner n o)
+return_buffer n b Unmade c h = h
+return_buffer n b (Home k) c h = h
+return_buffer n b (Returning k) c h = h
+return_buffer n b Spare c h = h
+return_buffer n b (Live buffer since bound) c h = h
+return_buffer n b (Retired k since bound) c h = h
+return_buffer n b (Paged k since bound) c h = absurd h
+return_buffer n b Dropped c h = h
+
+return_made : (n b : ℕ) (o : Owner) → IsMade o → IsMade (return_owner n o)
+return_made n b Unmade h = h
+return_made n b (Home k) h = h
+return_made n b (Returning k) h = h
+return_made n b Spare h = h
+return_made n b (Live buffer since bound) h = h
+return_made n b (Retired k since bound) h = h
+return_made n b (Paged k since bound) h = by_either IsMade (k == n) Spare (Paged k since bound) tt tt
+return_made n b Dropped h = h
+
+pub return_keeps : (n : ℕ) → Keeps (λ b o. return_owner n o)
+return_keeps n = record {
+  unmade = λ b. refl;
+  home = λ b k. refl;
+  spare = λ b. refl;
+  taken = return_taken n;
+  buffer = return_buffer n;
+  made = return_made n;
+}
+
+pub return_page : (n m : ℕ) (o : Owner) → n < m → IsPageOf m o → IsPageOf m (return_owner n o)
+return_page n m Unmade l h = h
+return_page n m (Home k) l h = h
+return_page n m (Returning k) l h = h
+return_page n m Spare l h = h
+return_page n m (Live buffer since bound) l h = h
+return_page n m (Retired k since bound) l h = h
+return_page n m (Paged k since bound) l h = subst (λ c. IsPageOf m (cond c Spare (Paged k since bound))) (let d : false ≡ (k == n) = elim (cases_Bool (k == n)) [ inl t ↦ let e = eqb-true k n t in absurd (let z : ⊥ = omega (arith, e, l, h) in z) | inr f ↦ sym f ] in d) h
+return_page n m Dropped l h = h
+
+pub return_spare : (n : ℕ) (o : Owner) → IsPageOf n o → return_owner n o ≡ Spare
+return_spare n Unmade h = absurd h
+return_spare n (Home k) h = absurd h
+return_spare n (Returning k) h = absurd h
+return_spare n Spare h = absurd h
+return_spare n (Live buffer since bound) h = absurd h
+return_spare n (Retired k since bound) h = absurd h
+return_spare n (Paged k since bound) h = ap (λ c. cond c Spare (Paged k since bound)) (eq-eqb k n h)
+return_spare n Dropped h = absurd h
+
+pub return_free : (n at : ℕ) (o : Owner) → IsFreeFrom at o → IsFreeFrom at (return_owner n o)
+return_free n at Unmade h = h
+return_free n at (Home k) h = h
+return_free n at (Returning k) h = h
+return_free n at Spare h = h
+return_free n at (Live buffer since bound) h = h
+return_free n at (Retired k since bound) h = h
+return_free n at (Paged k since bound) h = by_either (IsFreeFrom at) (k == n) Spare (Paged k since bound) tt h
+return_free n at Dropped h = h
+
+pub return_bound : (n b i : ℕ) (o : Owner) → bound_at (return_owner n o) i ≡ true → bound_at o i ≡ true
+return_bound n b i Unmade h = h
+return_bound n b i (Home k) h = h
+return_bound n b i (Returning k) h = h
+return_bound n b i Spare h = h
+return_bound n b i (Live buffer since bound) h = h
+return_bound n b i (Retired k since bound) h = h
+return_bound n b i (Paged k since bound) h = by (k == n) h
+  where
+    by : (x : Bool) → bound_at (cond x Spare (Paged k since bound)) i ≡ true → false ≡ true
+    by true h = h
+    by false h = h
+return_bound n b i Dropped h = h
+
+-- Places of a board -----------------------------------------------------------------------------------------------------------------
+
+pub set_other : {A : Type 0} (xs : List A) (i j : ℕ) (x : A) → (j ≡ i → ⊥) → slice_get (slice_set xs i x) j ≡ slice_get xs j
+set_other [] i j x n = refl
+set_other (y ∷ ys) zero zero x n = absurd (n refl)
+set_other (y ∷ ys) zero (suc j) x n = refl
+set_other (y ∷ ys) (suc i) zero x n = refl
+set_other (y ∷ ys) (suc i) (suc j) x n = set_other ys i j x (λ e. n (ap suc e))
+
+pub set_here : {A : Type 0} (xs : List A) (i : ℕ) (x y : A) → slice_get (slice_set xs i x) i ≡ Some y → x ≡ y
+set_here [] i x y e = absurd (cc e)
+set_here (z ∷ zs) zero x y e = cc e
+set_here (z ∷ zs) (suc i) x y e = set_here zs i x y e
