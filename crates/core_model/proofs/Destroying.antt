@@ -76,7 +76,7 @@ known_kept t f h w e rs own own' keep x k = record {
 -- Without the buffer -----------------------------------------------------------------------------------------------------------
 
 -- what is found without a buffer was there, and is another buffer's
-found : {A : Type 0} (n : ℕ) (f : ℕ → Option A) (m : ℕ) (x : A) → updated n None f m ≡ Some x → (f m ≡ Some x) × ((m == n) ≡ false)
+pub found : {A : Type 0} (n : ℕ) (f : ℕ → Option A) (m : ℕ) (x : A) → updated n None f m ≡ Some x → (f m ≡ Some x) × ((m == n) ≡ false)
 found n f m x e =
     elim (cases_Bool (m == n)) [
       | inl t ↦ absurd (let z : None ≡ Some x = sym (ap (λ c. cond c None (f m)) t) ∙ e in cc z)

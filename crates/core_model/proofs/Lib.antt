@@ -40,6 +40,10 @@ pub mod RunCovered
 pub mod Growing
 pub mod CoreListing
 pub mod Start
+pub mod KeptMoves
+pub mod KeptSteps
+pub mod KeptItems
+pub mod KeptBlocks
 pub mod Settling
 pub mod WorkedRuns
 pub mod LawfulLog
