@@ -2,30 +2,29 @@
 use Rattle.std.proofs.Common.{◌≡◌, ℕ, suc, ◌+◌, ◌-◌, ◌<◌, ◌≤◌, Bool, true, false, cond, max, ◌==◌, nat_le, List, [], ◌∷◌, ◌++◌, length, refl, sym, ap, ◌∙◌, subst, inl, inr, Option, Some, None, arith, append-nil}
 use mathlib.Core.Path.{fun_ext}
 use Rattle.std.specs.List.{AllByRecursion}
-use Rattle.std.proofs.lemmas.Bool.{both_ways, cases_Bool, eqb-true, eq-eqb, leb-true}
+use Rattle.std.proofs.lemmas.Bool.{cases_Bool, eqb-true, eq-eqb, leb-true}
 use Rattle.dx_types.specs.declared.range.Range.{Range}
 use Rattle.vk_types.specs.declared.message.Placed.{Placed}
 use Rattle.vk_types.specs.declared.op.VkOp.{VkOp}
-use Rattle.vk_types.specs.Memory.{covers, range, number_at}
+use Rattle.vk_types.specs.Memory.{range, number_at}
 use Rattle.vk_types.specs.Effects.{Meaning, Host_write, act_touches, is_host}
 use Rattle.vk_types.specs.Entries.{Entry}
 use Rattle.vk_types.proofs.Lists.{all_front, all_back, all_append, all_map, all_both}
 use Rattle.vk_types.proofs.Local.{covered}
 use Rattle.core_model.specs.Script.{Create, Turn, Item, Script, InOrder, padded, updated, at_start, turn_in_order, in_order}
 use Rattle.core_model.specs.Chunking.{is_due}
-use Rattle.core_model.specs.CoreState.{Segment, entries, flat, Owner, Unmade, class_length, Board, Pool, Core, segments, taken_count, finished_count, open_number}
+use Rattle.core_model.specs.CoreState.{Segment, entries, flat, Unmade, class_length, Board, Pool, Core, taken_count, finished_count, open_number}
 use Rattle.core_model.specs.Readings.{Reading}
 use Rattle.core_model.specs.Adding.{has_block, with_turn, with_write, new_entry, with_placed, placed_at, fenced, gives_block, length_of, retired_by}
 use Rattle.core_model.specs.AppActs.{TakesTurn}
 use Rattle.core_model.specs.Listed.{IsListed}
 use Rattle.core_model.specs.Stands.{touches_block}
 use Rattle.core_model.specs.Lawful.{ClassFits, PlaysRightly, IsLawful}
-use Rattle.core_model.specs.Invariant.{Allows, IsSince, KnownIn, IsFilled, Good, listed_acts}
+use Rattle.core_model.specs.Invariant.{Allows, KnownIn, IsFilled, Good, listed_acts}
 use Rattle.core_model.specs.Kept.{IsMade, Names, Kept}
 use Rattle.core_model.proofs.Idle.{touches_byte}
 use Rattle.core_model.proofs.Padding.{padded_long, padded_at}
 use Rattle.core_model.proofs.Restaging.{SparesEntry, restaged}
-use Rattle.core_model.proofs.Writing.{with_bytes}
 use Rattle.core_model.proofs.Giving.{IsVacant, vacant_since, vacant_buffer, stocked, vacant, own_unmade, has_parts, Fenced, same_fence, more_fence, given, filled, Fills, fills_none, fills_bytes, had, had_opened, had_meets}
 use Rattle.core_model.proofs.Discarding.{elsewhere}
 use Rattle.core_model.proofs.Opened.{before_open, Opened, opened}

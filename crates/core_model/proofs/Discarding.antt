@@ -1,5 +1,5 @@
 -- A map that discards: the buffer takes another block, and the open chunk retires the one that it had.
-use Rattle.std.proofs.Common.{◌≡◌, ℕ, suc, ◌+◌, ◌-◌, ◌<◌, ◌≤◌, Bool, true, false, cond, max, ◌&&◌, ◌==◌, nat_le, nat_lt, List, [], ◌∷◌, ◌++◌, length, refl, sym, ap, ◌∙◌, subst, inl, inr, Option, Some, None, arith}
+use Rattle.std.proofs.Common.{◌≡◌, ℕ, suc, ◌-◌, ◌<◌, ◌≤◌, Bool, true, false, cond, max, ◌&&◌, ◌==◌, nat_le, nat_lt, List, [], ◌∷◌, ◌++◌, length, refl, sym, ap, ◌∙◌, subst, inl, inr, Option, Some, None, arith}
 use Rattle.std.proofs.lemmas.Bool.{both_ways, cases_Bool, eqb-true, eq-eqb, leb-true}
 use Rattle.dx_types.specs.declared.range.Range.{Range}
 use Rattle.vk_types.specs.declared.message.Placed.{Placed}
@@ -8,7 +8,7 @@ use Rattle.vk_types.specs.Entries.{Entry}
 use Rattle.vk_types.specs.Memory.{covers, range, number_at}
 use Rattle.vk_types.specs.Effects.{Meaning, Host_write}
 use Rattle.vk_types.proofs.Local.{covered}
-use Rattle.core_model.specs.Script.{Discard, Turn, Item, Script, InOrder, padded, updated, at_start, turn_in_order, in_order}
+use Rattle.core_model.specs.Script.{Discard, Turn, Item, Script, InOrder, padded, at_start, turn_in_order, in_order}
 use Rattle.core_model.specs.Chunking.{is_due}
 use Rattle.core_model.specs.CoreState.{Owner, Board, Pool, Core, taken_count, finished_count, open_number}
 use Rattle.core_model.specs.Readings.{Reading}
@@ -20,10 +20,9 @@ use Rattle.core_model.specs.Invariant.{Allows, IsSince, IsLive, Good}
 use Rattle.core_model.specs.Kept.{Kept}
 use Rattle.core_model.proofs.Destroying.{retired_allows, retired_since}
 use Rattle.core_model.proofs.Padding.{padded_long}
-use Rattle.core_model.proofs.Writing.{with_bytes}
 use Rattle.core_model.proofs.Giving.{IsVacant, vacant_since, vacant_lives, stocked, vacant, has_parts, Fenced, same_fence, more_fence, given, filled, Fills, fills_none, fills_bytes, had, had_opened, had_meets}
 use Rattle.core_model.proofs.Opened.{Opened}
-use Rattle.core_model.proofs.Taking.{left_by, Meets, met, taken_good}
+use Rattle.core_model.proofs.Taking.{Meets, met, taken_good}
 use Rattle.vk_types.specs.declared.op.VkOp.TheVariants as op
 
 -- a buffer has no byte of another's range

@@ -1,17 +1,16 @@
 -- A buffer takes a block: one that was not made yet, or one at home. No command of a chunk that is not finished touches it.
-use Rattle.std.proofs.Common.{◌≡◌, ℕ, zero, suc, ◌+◌, ◌-◌, ◌*◌, ◌<◌, ◌≤◌, Bool, true, false, cond, max, ◌==◌, nat_le, List, [], ◌∷◌, ◌++◌, length, refl, sym, ap, ◌∙◌, subst, inl, inr, Option, Some, None, slice_get, arith}
+use Rattle.std.proofs.Common.{◌≡◌, ℕ, suc, ◌+◌, ◌-◌, ◌*◌, ◌<◌, ◌≤◌, Bool, true, false, cond, max, ◌==◌, List, [], ◌∷◌, ◌++◌, length, refl, sym, ap, ◌∙◌, subst, inl, inr, Some, None, slice_get, arith}
 use Rattle.std.specs.List.{AllByRecursion}
 use Rattle.std.proofs.lemmas.Bool.{both_ways, cases_Bool, eqb-true, eq-eqb}
 use Rattle.dx_types.specs.declared.range.Range.{Range}
 use Rattle.vk_types.specs.declared.message.Placed.{Placed}
 use Rattle.vk_types.specs.declared.op.VkOp.{VkOp}
-use Rattle.vk_types.specs.Memory.{Memory, zeros, covers, put, range, number_at}
+use Rattle.vk_types.specs.Memory.{zeros, range, number_at}
 use Rattle.vk_types.specs.Effects.{Meaning}
 use Rattle.vk_types.specs.Entries.{Entry, run_entries}
 use Rattle.vk_types.proofs.Lists.{all_front, all_back, all_map}
-use Rattle.vk_types.proofs.Local.{covered, covered_block}
-use Rattle.core_model.specs.Script.{Turn, Script, InOrder, updated, at_start, turn_in_order, in_order}
-use Rattle.core_model.specs.Chunking.{is_due}
+use Rattle.vk_types.proofs.Local.{covered}
+use Rattle.core_model.specs.Script.{Turn, Script, InOrder, updated, at_start, in_order}
 use Rattle.core_model.specs.CoreState.{Segment, Owner, Unmade, Home, Returning, Spare, Live, Retired, Paged, Dropped, Board, Pool, Core, later, taken_count, finished_count, open_number}
 use Rattle.core_model.specs.Readings.{Reading}
 use Rattle.core_model.specs.Owners.{nothing_bound}
@@ -19,8 +18,7 @@ use Rattle.core_model.specs.Placing.{BlockChoice, Takes, From_home, New_made}
 use Rattle.core_model.specs.Adding.{has_block, retired_by}
 use Rattle.core_model.specs.Playing.{HasBlock, Own, Of_class}
 use Rattle.core_model.specs.OtherParts.{used_in}
-use Rattle.core_model.specs.Stands.{Stands}
-use Rattle.core_model.specs.Worlds.{empty, run_world}
+use Rattle.core_model.specs.Worlds.{empty}
 use Rattle.core_model.specs.Listed.{IsListed, IsCounted}
 use Rattle.core_model.specs.Lawful.{ClassFits}
 use Rattle.core_model.specs.Invariant.{Allows, IsSince, IsLive, NamesStaging, Totals, Good, listed_acts}
@@ -29,7 +27,7 @@ use Rattle.core_model.proofs.Worlds.{world_memory}
 use Rattle.core_model.proofs.CoreListing.{fence_listed, fence_counted}
 use Rattle.core_model.proofs.Writing.{with_bytes, written_world, other_bytes, opened_write}
 use Rattle.core_model.proofs.Opened.{before_open, opened_entries, Opened, opened, opened_turn, opened_owner, opened_fenced}
-use Rattle.core_model.proofs.Taking.{left_by, Meets, met, taken_good}
+use Rattle.core_model.proofs.Taking.{left_by, Meets}
 use Rattle.vk_types.specs.declared.op.VkOp.TheVariants as op
 
 -- Blocks that may be taken ------------------------------------------------------------------------------------------------------

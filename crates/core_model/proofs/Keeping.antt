@@ -1,15 +1,13 @@
 -- How what holds beside the invariant is kept: where blocks and pages stand, as owners change.
-use Rattle.std.proofs.Common.{◌≡◌, ℕ, zero, suc, ◌+◌, ◌*◌, ◌<◌, ◌≤◌, Bool, true, false, cond, ◌||◌, ◌==◌, List, [], ◌∷◌, ◌++◌, refl, sym, ap, ◌∙◌, subst, inl, inr, Option, Some, None, slice_get, slice_set, arith}
+use Rattle.std.proofs.Common.{◌≡◌, ℕ, zero, suc, ◌+◌, ◌*◌, ◌<◌, ◌≤◌, Bool, true, false, cond, ◌||◌, ◌==◌, List, [], ◌∷◌, refl, sym, ap, ◌∙◌, subst, inl, inr, Option, Some, slice_get, slice_set, arith}
 use Rattle.std.specs.List.{AllByRecursion}
-use Rattle.std.proofs.lemmas.Bool.{both_ways, cases_Bool, or_cases, eqb-true, eq-eqb}
+use Rattle.std.proofs.lemmas.Bool.{cases_Bool, eqb-true, eq-eqb}
 use Rattle.dx_types.specs.declared.range.Range.{Range}
-use Rattle.vk_types.specs.Lists.{Pairwise}
 use Rattle.vk_types.proofs.Lists.{all_map}
-use Rattle.core_model.specs.Script.{Turn, Script}
-use Rattle.core_model.specs.CoreState.{Page, Segment, Owner, Unmade, Home, Returning, Spare, Live, Retired, Paged, Dropped, has_class, Board, Newest, Pool}
+use Rattle.core_model.specs.Script.{Script}
+use Rattle.core_model.specs.CoreState.{Segment, Owner, Unmade, Home, Returning, Spare, Live, Retired, Paged, Dropped, has_class, Board, Pool}
 use Rattle.core_model.specs.Owners.{in_ranges, bind_owner, retire_owner, is_block, finish_owner, return_owner}
-use Rattle.core_model.specs.Adding.{has_block}
-use Rattle.core_model.specs.Kept.{IsPageOf, IsFreeFrom, IsTakenBy, IsOfBuffer, IsMade, bound_at, ArePaged, IsNewest, PlacesRight, PagesRight, BlocksRight, Names, BoundRight}
+use Rattle.core_model.specs.Kept.{IsPageOf, IsFreeFrom, IsTakenBy, IsOfBuffer, IsMade, bound_at, ArePaged, PlacesRight, BlocksRight, Names}
 
 -- Owners that change by a function of the block and its owner ------------------------------------------------------------------
 

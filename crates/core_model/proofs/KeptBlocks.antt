@@ -1,23 +1,19 @@
 -- What a buffer that takes a block, and a page that is written to, leave of what holds beside the invariant.
-use Rattle.std.proofs.Common.{◌≡◌, ℕ, zero, suc, ◌+◌, ◌*◌, ◌<◌, ◌≤◌, Bool, true, false, cond, max, ◌||◌, ◌==◌, nat_lt, List, [], ◌∷◌, ◌++◌, length, map, refl, sym, ap, ◌∙◌, subst, ◌⊎◌, inl, inr, Option, Some, None, slice_get, slice_set, arith}
-use Rattle.std.specs.List.{AllByRecursion}
-use Rattle.std.proofs.lemmas.Bool.{both_ways, cases_Bool, or_cases, eqb-true, eq-eqb, ltb-true}
+use Rattle.std.proofs.Common.{◌≡◌, ℕ, suc, ◌+◌, ◌*◌, ◌<◌, ◌≤◌, Bool, true, false, cond, ◌==◌, nat_lt, List, [], ◌∷◌, ◌++◌, length, refl, sym, ap, ◌∙◌, subst, inl, inr, Option, Some, None, slice_get, slice_set, arith}
+use Rattle.std.proofs.lemmas.Bool.{both_ways, cases_Bool, eqb-true, eq-eqb, ltb-true}
 use Rattle.dx_types.specs.declared.range.Range.{Range}
-use Rattle.vk_types.specs.Lists.{Pairwise}
-use Rattle.vk_types.proofs.Lists.{all_front, all_back, all_append, all_map, all_both, pairs_append, pairs_without, pairs_to, pairs_back}
+use Rattle.vk_types.proofs.Lists.{all_map}
 use Rattle.core_model.specs.Script.{Turn, Script, updated}
-use Rattle.core_model.specs.CoreState.{Page, Segment, Owner, Unmade, Home, Returning, Spare, Live, Retired, Paged, Dropped, has_class, Board, Pool, Newest, Core, later, taken_count, handed_count, open_number}
+use Rattle.core_model.specs.CoreState.{Segment, Owner, Unmade, Home, Returning, Spare, Live, Retired, Paged, Dropped, has_class, Board, Pool, Newest, Core, later, taken_count, open_number}
 use Rattle.core_model.specs.Readings.{Reading}
 use Rattle.core_model.specs.Owners.{nothing_bound, in_ranges}
 use Rattle.core_model.specs.Placing.{BlockChoice, Takes, From_home, New_made}
 use Rattle.core_model.specs.Playing.{HasBlock, Own, Of_class}
-use Rattle.core_model.specs.Adding.{has_block}
 use Rattle.core_model.specs.Lawful.{resets, bound_by, is_bound, ClassFits}
-use Rattle.core_model.specs.Kept.{IsPageOf, IsFreeFrom, IsTakenBy, IsOfBuffer, IsMade, bound_at, AreApart, ArePaged, IsNewest, PlacesRight, PagesRight, BlocksRight, Names, BoundRight, Beside}
+use Rattle.core_model.specs.Kept.{IsPageOf, IsFreeFrom, IsTakenBy, IsOfBuffer, IsMade, bound_at, ArePaged, IsNewest, PlacesRight, Names, Beside}
 use Rattle.core_model.proofs.Binding.{or_left}
 use Rattle.core_model.proofs.Giving.{IsVacant, vacant_buffer}
 use Rattle.core_model.proofs.Keeping.{set_other, set_here}
-use Rattle.core_model.proofs.KeptSteps.{places_later}
 use Rattle.core_model.proofs.KeptItems.{stays_bound}
 use Rattle.core_model.proofs.Segments.{handed_length}
 
@@ -96,14 +92,16 @@ module _ (own : ℕ → Owner) (fence since buffer : ℕ) (le : since ≤ fence)
       λ c q b h.
       elim (cases_Bool (c == class)) [
         | inr f ↦
-            let old : slice_get (board.places c) q ≡ Some (Some b) = sym (ap (λ x. slice_get (cond x new (board.places c)) q) f) ∙ h in
-            (old, (λ s.
-            let x = p.home c q b old in
-            let lo = x.0 in
-            let hi = x.1 in
-            let lo' = at.0 in
-            let hi' = at.1 in
-            both_ways (c == class) f (eq-eqb c class (omega (arith, s, lo, hi, lo', hi')))))
+            let old : slice_get (board.places c) q ≡ Some (Some b) = sym (ap (λ x. slice_get (cond x new (board.places c)) q) f) ∙ h in (
+              old,
+              (λ s.
+                  let x = p.home c q b old in
+                  let lo = x.0 in
+                  let hi = x.1 in
+                  let lo' = at.0 in
+                  let hi' = at.1 in
+                  both_ways (c == class) f (eq-eqb c class (omega (arith, s, lo, hi, lo', hi')))),
+            )
         | inl t ↦
             let same = eqb-true c class t in
             let here : slice_get new q ≡ Some (Some b) = sym (ap (λ x. slice_get (cond x new (board.places c)) q) t) ∙ h in

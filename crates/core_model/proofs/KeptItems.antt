@@ -1,7 +1,7 @@
 -- What an item leaves of what holds beside the invariant: turns that bind nothing, ranges that are bound, a destroyed buffer.
-use Rattle.std.proofs.Common.{◌≡◌, ℕ, zero, suc, ◌+◌, ◌*◌, ◌<◌, ◌≤◌, Bool, true, false, cond, not, ◌&&◌, ◌||◌, ◌==◌, List, [], ◌∷◌, ◌++◌, map, refl, sym, ap, ◌∙◌, subst, ◌⊎◌, inl, inr, Option, Some, None, arith}
-use Rattle.std.specs.List.{list_any, AllByRecursion}
-use Rattle.std.proofs.lemmas.Bool.{both_ways, cases_Bool, or_cases, and_parts, eqb-true, eq-eqb}
+use Rattle.std.proofs.Common.{◌≡◌, ℕ, ◌<◌, Bool, true, false, cond, not, ◌&&◌, ◌||◌, ◌==◌, List, [], ◌∷◌, ◌++◌, map, refl, sym, ap, ◌∙◌, ◌⊎◌, inl, inr, Option, Some, None, arith}
+use Rattle.std.specs.List.{AllByRecursion}
+use Rattle.std.proofs.lemmas.Bool.{cases_Bool, or_cases, and_parts, eqb-true}
 use Rattle.std.proofs.lemmas.List.Folds.{list_any-append}
 use Rattle.dx_types.specs.declared.range.Range.{Range}
 use Rattle.vk_types.specs.Memory.{covers, range, or_zero}
@@ -10,13 +10,13 @@ use Rattle.vk_types.proofs.Lists.{all_map}
 use Rattle.vk_types.proofs.Local.{covered, covered_block, covered_from, covered_to}
 use Rattle.core_model.specs.Script.{Destroy, Turn, Item, Script, updated, at_start, in_order}
 use Rattle.core_model.specs.Renaming.{BlockMap, block_of, range_on}
-use Rattle.core_model.specs.CoreState.{Page, Segment, Owner, Unmade, Home, Returning, Spare, Live, Retired, Paged, Dropped, Newest, Core, later, taken_count, open_number}
+use Rattle.core_model.specs.CoreState.{Owner, Unmade, Home, Returning, Spare, Live, Retired, Paged, Dropped, Newest, Core, later, taken_count, open_number}
 use Rattle.core_model.specs.Owners.{in_ranges, bind_owner, is_block, retired}
 use Rattle.core_model.specs.Adding.{has_block, add_staging, without_block}
 use Rattle.core_model.specs.Stands.{Stands}
 use Rattle.core_model.specs.Lawful.{resets, bound_by, is_bound, Fits}
 use Rattle.core_model.specs.Invariant.{IsLive}
-use Rattle.core_model.specs.Kept.{IsPageOf, IsFreeFrom, IsTakenBy, IsOfBuffer, IsMade, bound_at, AreApart, ArePaged, IsNewest, PlacesRight, PagesRight, BlocksRight, Names, BoundRight, Beside}
+use Rattle.core_model.specs.Kept.{IsPageOf, IsMade, bound_at, IsNewest, Names, Beside}
 use Rattle.core_model.proofs.Binding.{or_left, or_right}
 use Rattle.core_model.proofs.Destroying.{found}
 use Rattle.core_model.proofs.Keeping.{places_by, blocks_by, names_by, named_by, paged_by, bind_keeps, bind_page, bind_free, bind_bound, retire, retire_keeps, retire_paged, retire_newest, retire_bounds}
@@ -73,9 +73,11 @@ bound_back meaning script memory blocks front st (q ∷ qs) fits b i h =
     elim (or_cases (covers (range_on blocks q) b i) (in_ranges (map (range_on blocks) qs) b i) h) [
       | inl here ↦
           let has = st.has_block q.block fits.0.0.0 in
-          let same : has.0 ≡ b = sym (ap or_zero has.1) ∙ covered_block (range_on blocks q) b i here in
-          (q.block, has.1 ∙ ap Some same,
-              or_left (covers q q.block i) (in_ranges qs q.block i) (covered q q.block i refl (covered_from (range_on blocks q) b i here) (covered_to (range_on blocks q) b i here)))
+          let same : has.0 ≡ b = sym (ap or_zero has.1) ∙ covered_block (range_on blocks q) b i here in (
+            q.block,
+            has.1 ∙ ap Some same,
+            or_left (covers q q.block i) (in_ranges qs q.block i) (covered q q.block i refl (covered_from (range_on blocks q) b i here) (covered_to (range_on blocks q) b i here)),
+          )
       | inr later ↦
           let r = bound_back meaning script memory blocks front st qs fits.1 b i later in
           (r.0, r.1, or_right (covers q r.0 i) (in_ranges qs r.0 i) r.2)
@@ -118,8 +120,11 @@ staging_back meaning script memory blocks front st (q ∷ qs) staging fits b h =
                 | inl y ↦ inl y
                 | inr y ↦
                     let has = st.has_block q.block fits.0.0.0 in
-                    inr (q.block, has.1 ∙ ap Some (sym (ap or_zero has.1) ∙ eqb-true (block_of blocks q.block) b (just (block_of blocks q.block == b) y)),
-                        (and_parts (script.is_staging q.block) (not (has_block (block_of blocks q.block) staging)) t).0)
+                    inr (
+                      q.block,
+                      has.1 ∙ ap Some (sym (ap or_zero has.1) ∙ eqb-true (block_of blocks q.block) b (just (block_of blocks q.block == b) y)),
+                      (and_parts (script.is_staging q.block) (not (has_block (block_of blocks q.block) staging)) t).0,
+                    )
               ]
         ]
       where
@@ -173,20 +178,20 @@ module _ (meaning : Meaning) (script : Script) (memory : ℕ → ℕ → ℕ) (o
       → Names old.is_staging own (add_staging script old.blocks (bound_by t) old.open_chunk.staging) (old.open_chunk.bound ++ (others ++ rs))
   more_names others own keep made = (
     (λ c h.
-    elim (staging_back meaning script memory old.blocks old.past stands (bound_by t) old.open_chunk.staging fits c h) [
-      | inl x ↦ b.named_open.0 c x
-      | inr x ↦ b.blocks.alike x.0 c x.1 ∙ x.2
-    ]),
+        elim (staging_back meaning script memory old.blocks old.past stands (bound_by t) old.open_chunk.staging fits c h) [
+          | inl x ↦ b.named_open.0 c x
+          | inr x ↦ b.blocks.alike x.0 c x.1 ∙ x.2
+        ]),
     (λ c h.
-    elim (or_cases (has_block c old.open_chunk.bound) (has_block c (others ++ rs)) (sym (list_any-append (λ r. r.block == c) old.open_chunk.bound (others ++ rs)) ∙ h)) [
-      | inl x ↦ keep c (b.named_open.1 c x)
-      | inr x ↦ elim (or_cases (has_block c others) (has_block c rs) (sym (list_any-append (λ r. r.block == c) others rs) ∙ x)) [
-        | inl y ↦ made c y
-        | inr y ↦
-            let q = named_back meaning script memory old.blocks old.past stands (bound_by t) fits c y in
-            keep c (live_made q.0 (old.owner c) (live q.0 c q.1))
-      ]
-    ]),
+        elim (or_cases (has_block c old.open_chunk.bound) (has_block c (others ++ rs)) (sym (list_any-append (λ r. r.block == c) old.open_chunk.bound (others ++ rs)) ∙ h)) [
+          | inl x ↦ keep c (b.named_open.1 c x)
+          | inr x ↦ elim (or_cases (has_block c others) (has_block c rs) (sym (list_any-append (λ r. r.block == c) others rs) ∙ x)) [
+            | inl y ↦ made c y
+            | inr y ↦
+                let q = named_back meaning script memory old.blocks old.past stands (bound_by t) fits c y in
+                keep c (live_made q.0 (old.owner c) (live q.0 c q.1))
+          ]
+        ]),
   )
 
   -- a byte that is bound now was, or is by the turn

@@ -1,28 +1,15 @@
 -- What holds beside the invariant is kept by each step of a part other than App, by posts that App takes, and by a hand-over.
-use Rattle.std.proofs.Common.{◌≡◌, ℕ, zero, suc, ◌+◌, ◌*◌, ◌<◌, ◌≤◌, Bool, true, false, cond, max, ◌==◌, List, [], ◌∷◌, ◌++◌, length, refl, sym, ap, ◌∙◌, subst, ◌⊎◌, inl, inr, Option, Some, None, slice_get, slice_set, arith, append_assoc}
+use Rattle.std.proofs.Common.{◌≡◌, ℕ, suc, ◌+◌, ◌*◌, ◌<◌, ◌≤◌, Bool, true, false, cond, ◌==◌, List, [], ◌∷◌, ◌++◌, length, sym, ap, ◌∙◌, subst, ◌⊎◌, inl, inr, Option, Some, None, slice_get, slice_set, arith}
 use Rattle.std.specs.List.{AllByRecursion}
 use Rattle.std.proofs.lemmas.Bool.{both_ways, cases_Bool, eqb-true, eq-eqb}
-use Rattle.vk_types.specs.Effects.{Meaning}
 use Rattle.vk_types.specs.Entries.{Entry}
-use Rattle.vk_types.proofs.Lists.{all_append, all_map, all_true, pairs_append}
+use Rattle.vk_types.proofs.Lists.{all_map}
 use Rattle.core_model.specs.Script.{Script, updated}
-use Rattle.core_model.specs.Chunking.{is_due}
-use Rattle.core_model.specs.CoreState.{Page, Segment, Running, Message, Owner, Unmade, Home, Returning, Spare, Live, Retired, Paged, Dropped, Board, Pool, Newest, Core, start, of_messages, of_running, later, taken_count, finished_count, handed_count, open_number}
-use Rattle.core_model.specs.Readings.{Reading, may_hand_over}
-use Rattle.core_model.specs.Owners.{return_owner, finish_owner}
-use Rattle.core_model.specs.TakingPosts.{with_post, TakesPosts, with_fence}
-use Rattle.core_model.specs.AppActs.{handed_over}
-use Rattle.core_model.specs.CoreStep.{Event, App, Cs, Pipe, Submit, Accept, Run, Complete, Finish, Come_home, is_of_app, Step}
-use Rattle.core_model.specs.OtherParts.{snaps_of, values_of}
-use Rattle.core_model.specs.Kept.{IsPageOf, IsFreeFrom, IsTakenBy, IsOfBuffer, IsMade, bound_at, AreApart, ArePaged, IsNewest, PlacesRight, PagesRight, BlocksRight, Names, BoundRight, Beside, Kept}
-use Rattle.core_model.proofs.Worlds.{of_messages-append, of_running-append}
-use Rattle.core_model.proofs.Segments.{behind_six, handed_length}
-use Rattle.core_model.proofs.Heads.{one_more}
-use Rattle.core_model.proofs.Handing.{hand_over_good}
-use Rattle.core_model.proofs.Posting.{posts_good}
-use Rattle.core_model.proofs.Start.{start_good}
-use Rattle.core_model.proofs.Steps.{others_good}
-use Rattle.core_model.proofs.Keeping.{places_by, blocks_by, names_by, named_by, paged_by, finish_keeps, finish_page, finish_free, finish_bound, return_keeps, return_page, return_spare, return_free, return_bound, set_other, set_here}
+use Rattle.core_model.specs.CoreState.{Segment, Running, Message, Owner, Unmade, Home, Returning, Spare, Board, Newest, Core, of_messages, of_running, later, taken_count, open_number}
+use Rattle.core_model.specs.Owners.{finish_owner}
+use Rattle.core_model.specs.Kept.{IsPageOf, IsFreeFrom, IsTakenBy, IsOfBuffer, IsMade, bound_at, ArePaged, IsNewest, PlacesRight, PagesRight, Names, Beside}
+use Rattle.core_model.proofs.Segments.{handed_length}
+use Rattle.core_model.proofs.Keeping.{places_by, blocks_by, names_by, named_by, paged_by, finish_keeps, finish_page, finish_free, finish_bound, set_other, set_here}
 
 -- The other parts ---------------------------------------------------------------------------------------------------------------
 

@@ -1,23 +1,22 @@
 -- The invariant and what holds beside it are kept together, by the steps of other parts, by posts, by a hand-over, and as a run
 -- begins.
-use Rattle.std.proofs.Common.{◌≡◌, ℕ, zero, suc, ◌+◌, ◌<◌, ◌≤◌, Bool, true, false, max, List, [], ◌∷◌, ◌++◌, length, replicate, refl, sym, ap, ◌∙◌, subst, inl, inr, Option, Some, None, slice_get, arith, append_assoc, length-append}
+use Rattle.std.proofs.Common.{◌≡◌, ℕ, zero, suc, ◌+◌, ◌<◌, ◌≤◌, true, false, max, List, [], ◌∷◌, ◌++◌, length, replicate, refl, sym, ap, ◌∙◌, subst, Some, None, slice_get, arith, append_assoc, length-append}
 use Rattle.std.specs.List.{AllByRecursion}
-use Rattle.vk_types.specs.Lists.{Pairwise}
 use Rattle.vk_types.specs.Effects.{Meaning, act_effect}
-use Rattle.vk_types.specs.Entries.{Entry, run_entries}
+use Rattle.vk_types.specs.Entries.{run_entries}
 use Rattle.vk_types.proofs.Lists.{all_append, all_map, pairs_append}
 use Rattle.core_model.specs.Script.{Script}
 use Rattle.core_model.specs.Chunking.{is_due}
-use Rattle.core_model.specs.CoreState.{Page, Segment, empty_segment, Running, Message, Owner, Unmade, Home, Returning, Spare, Live, Retired, Paged, Dropped, Board, Pool, Newest, Core, start, of_messages, of_running, later, taken_count, finished_count, handed_count, open_number}
+use Rattle.core_model.specs.CoreState.{Page, Segment, Running, Message, Owner, Unmade, Home, Returning, Spare, Live, Retired, Paged, Dropped, Board, Pool, Core, start, of_messages, of_running, later, taken_count, finished_count, open_number}
 use Rattle.core_model.specs.Readings.{Reading, may_hand_over}
 use Rattle.core_model.specs.Owners.{return_owner, finish_owner}
 use Rattle.core_model.specs.TakingPosts.{with_post, TakesPosts, with_fence}
 use Rattle.core_model.specs.AppActs.{handed_over}
 use Rattle.core_model.specs.OtherParts.{created, counted, snaps_of, values_of}
 use Rattle.core_model.specs.CoreStep.{Event, App, Cs, Pipe, Submit, Accept, Run, Complete, Finish, Come_home, is_of_app, Step}
-use Rattle.core_model.specs.Kept.{IsPageOf, IsFreeFrom, IsTakenBy, IsOfBuffer, IsMade, AreApart, ArePaged, IsNewest, PlacesRight, PagesRight, BlocksRight, Names, BoundRight, Beside, Kept}
+use Rattle.core_model.specs.Kept.{IsPageOf, IsTakenBy, AreApart, ArePaged, PlacesRight, PagesRight, Names, Beside, Kept}
 use Rattle.core_model.proofs.Worlds.{of_messages-append, of_running-append}
-use Rattle.core_model.proofs.Segments.{behind_six, handed_length, later_length}
+use Rattle.core_model.proofs.Segments.{behind_six, handed_length}
 use Rattle.core_model.proofs.Heads.{one_more}
 use Rattle.core_model.proofs.Handing.{hand_over_good}
 use Rattle.core_model.proofs.Posting.{posts_good}

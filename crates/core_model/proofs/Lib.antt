@@ -44,6 +44,9 @@ pub mod KeptMoves
 pub mod KeptSteps
 pub mod KeptItems
 pub mod KeptBlocks
+pub mod KeptPages
+pub mod KeptActs
+pub mod KeptTurns
 pub mod Settling
 pub mod WorkedRuns
 pub mod LawfulLog

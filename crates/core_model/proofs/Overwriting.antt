@@ -1,7 +1,6 @@
 -- A map that overwrites nothing that is in use: the bytes that it writes were bound by no item since the buffer's block was taken.
-use Rattle.std.proofs.Common.{◌≡◌, ℕ, suc, ◌+◌, ◌-◌, ◌<◌, ◌≤◌, Bool, true, false, cond, ◌==◌, List, [], ◌∷◌, ◌++◌, length, refl, sym, ap, ◌∙◌, subst, inl, inr, Option, Some, None, arith}
-use Rattle.std.specs.List.{AllByRecursion}
-use Rattle.std.proofs.lemmas.Bool.{both_ways, cases_Bool, eqb-true}
+use Rattle.std.proofs.Common.{◌≡◌, ℕ, ◌+◌, ◌-◌, ◌<◌, ◌≤◌, Bool, false, cond, List, [], ◌∷◌, ◌++◌, length, refl, sym, ap, ◌∙◌, subst, inl, inr, Some, None, arith}
+use Rattle.std.proofs.lemmas.Bool.{both_ways, cases_Bool}
 use mathlib.Core.Path.{fun_ext}
 use Rattle.dx_types.specs.declared.range.Range.{Range}
 use Rattle.vk_types.specs.Memory.{Memory, covers, put, range, number_at, or_zero}
@@ -11,17 +10,16 @@ use Rattle.vk_types.proofs.Local.{covered_block, covered_from, covered_to}
 use Rattle.core_model.specs.Script.{No_overwrite, Turn, Item, Script, InOrder, at_start, turn_in_order, in_order}
 use Rattle.core_model.specs.Chunking.{is_due}
 use Rattle.core_model.specs.Renaming.{block_of}
-use Rattle.core_model.specs.CoreState.{Segment, Owner, Unmade, Home, Returning, Spare, Live, Retired, Paged, Dropped, Core, taken_count, finished_count}
+use Rattle.core_model.specs.CoreState.{Owner, Unmade, Home, Returning, Spare, Live, Retired, Paged, Dropped, Core, taken_count, finished_count}
 use Rattle.core_model.specs.Readings.{Reading}
-use Rattle.core_model.specs.Adding.{has_block, placed_at, with_write}
+use Rattle.core_model.specs.Adding.{has_block, placed_at}
 use Rattle.core_model.specs.AppActs.{TakesTurn}
-use Rattle.core_model.specs.Stands.{Stands}
-use Rattle.core_model.specs.Worlds.{empty, world_step}
+use Rattle.core_model.specs.Worlds.{empty}
 use Rattle.core_model.specs.Lawful.{is_bound, PlaysRightly, IsLawful}
 use Rattle.core_model.specs.Invariant.{Allows, IsLive, Totals, Good}
 use Rattle.core_model.specs.Kept.{IsTakenBy, bound_at, Names, Kept}
-use Rattle.core_model.proofs.Turning.{turned_good, SameShown}
-use Rattle.core_model.proofs.Alike.{Has, Agree, HasRange, put_alike}
+use Rattle.core_model.proofs.Turning.{turned_good}
+use Rattle.core_model.proofs.Alike.{HasRange, put_alike}
 use Rattle.core_model.proofs.Writing.{with_bytes, written_world, opened_write}
 use Rattle.core_model.proofs.Opened.{before_open, Opened, opened, opened_turn}
 use Rattle.core_model.proofs.Taking.{left_by, Meets, met, taken_good}

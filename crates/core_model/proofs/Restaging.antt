@@ -1,20 +1,18 @@
 -- A block that no command touches may become a staging block: the listing's barriers to the host stay.
-use Rattle.std.proofs.Common.{◌≡◌, ℕ, Bool, true, false, cond, ◌&&◌, ◌||◌, ◌==◌, List, [], ◌∷◌, ◌++◌, refl, sym, ap, ◌∙◌, subst, inl, inr, Option, Some, None}
+use Rattle.std.proofs.Common.{◌≡◌, ℕ, Bool, true, false, cond, ◌&&◌, ◌||◌, ◌==◌, List, [], ◌∷◌, ◌++◌, refl, sym, ap, ◌∙◌, subst, inl, inr, Some, None}
 use Rattle.std.specs.List.{list_any, AllByRecursion}
-use Rattle.std.proofs.lemmas.Bool.{both_ways, cases_Bool, or_cases, eqb-true}
-use Rattle.dx_types.specs.declared.range.Range.{Range}
+use Rattle.std.proofs.lemmas.Bool.{both_ways, cases_Bool, eqb-true}
 use Rattle.vk_types.specs.declared.touch.Touch.{Touch}
 use Rattle.vk_types.specs.declared.op.VkOp.{VkOp}
 use Rattle.vk_types.specs.Hazards.{touches, has_write}
-use Rattle.vk_types.specs.Effects.{Host_write, Device, Host_read, is_host}
-use Rattle.vk_types.specs.BarrierCauses.{lesser, least_of, writes_block, least_writer, host_barrier, maybe_barrier, barrier_before, recent_after, barriers_from}
-use Rattle.vk_types.specs.Entries.{Entry, Counts, next, after_host, after_barrier, after_submit, after_fence, first_of, rest_of, start_counts}
-use Rattle.vk_types.proofs.Lists.{all_front, all_back, all_append}
+use Rattle.vk_types.specs.Effects.{Device, is_host}
+use Rattle.vk_types.specs.BarrierCauses.{lesser, writes_block, least_writer, host_barrier, maybe_barrier, barrier_before, recent_after, barriers_from}
+use Rattle.vk_types.specs.Entries.{Entry, Counts, next, after_host, after_barrier, after_submit, after_fence, rest_of, start_counts}
+use Rattle.vk_types.proofs.Lists.{all_append}
 use Rattle.core_model.specs.Script.{updated}
 use Rattle.core_model.specs.Stands.{touches_block}
 use Rattle.core_model.specs.RunReads.{ReadsStaging}
-use Rattle.core_model.specs.Listed.{nothing_listed, after_ops, GoesOn, plain_entries, after_counts, IsListed}
-use Rattle.core_model.proofs.Binding.{or_right}
+use Rattle.core_model.specs.Listed.{nothing_listed, after_ops, plain_entries, after_counts, IsListed}
 use Rattle.vk_types.specs.declared.command.Command as c
 use Rattle.vk_types.specs.declared.op.VkOp.TheVariants as op
 

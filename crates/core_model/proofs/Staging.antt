@@ -1,7 +1,7 @@
 -- Bytes are staged: the host writes them to a page, and a command copies them to the target, if there is one.
-use Rattle.std.proofs.Common.{◌≡◌, ℕ, zero, suc, ◌+◌, ◌-◌, ◌<◌, ◌≤◌, Bool, true, false, cond, ◌||◌, ◌==◌, nat_lt, List, [], ◌∷◌, ◌++◌, length, map, refl, sym, ap, ◌∙◌, subst, inl, inr, Option, Some, None, arith}
+use Rattle.std.proofs.Common.{◌≡◌, ℕ, suc, ◌+◌, ◌-◌, ◌<◌, ◌≤◌, Bool, true, false, cond, ◌||◌, ◌==◌, nat_lt, List, [], ◌∷◌, ◌++◌, length, map, refl, sym, ap, ◌∙◌, subst, inl, inr, Option, Some, None, arith}
 use Rattle.std.specs.List.{AllByRecursion}
-use Rattle.std.proofs.lemmas.Bool.{both_ways, cases_Bool, or_cases, eqb-true, eq-eqb, ltb-true, leb-true, cases_lt, lt-ltb, lt-leb}
+use Rattle.std.proofs.lemmas.Bool.{both_ways, cases_Bool, or_cases, eqb-true, eq-eqb, ltb-true, cases_lt, lt-ltb}
 use Rattle.std.proofs.lemmas.List.Folds.{list_any-append}
 use Rattle.dx_types.specs.declared.range.Range.{Range}
 use Rattle.vk_types.specs.declared.touch.Touch.{Touch}
@@ -14,11 +14,11 @@ use Rattle.vk_types.specs.Hazards.{touch, read_access, touches, cond_touches, is
 use Rattle.vk_types.specs.Effects.{Meaning, Host_write, is_skipped, invocations}
 use Rattle.vk_types.specs.BarrierCauses.{least_conflict, caused}
 use Rattle.vk_types.proofs.Lists.{all_back, all_map}
-use Rattle.vk_types.proofs.Local.{covered, covered_block, covered_to}
+use Rattle.vk_types.proofs.Local.{covered, covered_block}
 use Rattle.core_model.specs.Script.{Stage, Turn, Item, Script, InOrder, updated, staged_in_order, at_start, turn_in_order, in_order}
 use Rattle.core_model.specs.Chunking.{is_due}
 use Rattle.core_model.specs.Renaming.{range_on, cond_on}
-use Rattle.core_model.specs.CoreState.{Page, Owner, Unmade, Home, Returning, Spare, Live, Retired, Paged, Dropped, Pool, Core, taken_count, finished_count, open_number}
+use Rattle.core_model.specs.CoreState.{Owner, Unmade, Home, Returning, Spare, Live, Retired, Paged, Dropped, Pool, Core, taken_count, finished_count, open_number}
 use Rattle.core_model.specs.Readings.{Reading}
 use Rattle.core_model.specs.Owners.{nothing_bound, in_ranges, bind_owner}
 use Rattle.core_model.specs.Placing.{PageChoice, Staged, Stages, On_newest, On_spare, On_new}
@@ -28,7 +28,7 @@ use Rattle.core_model.specs.Worlds.{empty, world_step}
 use Rattle.core_model.specs.Lawful.{target_touches, Fits, PlaysRightly, IsLawful}
 use Rattle.core_model.specs.Invariant.{Allows, IsSince, IsLive, Totals, Good}
 use Rattle.core_model.specs.Kept.{IsPageOf, IsFreeFrom, IsTakenBy, IsOfBuffer, IsNewest, Names, Kept}
-use Rattle.core_model.proofs.Turning.{turned_good, SameShown}
+use Rattle.core_model.proofs.Turning.{turned_good}
 use Rattle.core_model.proofs.Binding.{or_left, or_right, bind_allows, bind_since, bind_live}
 use Rattle.core_model.proofs.Alike.{Has, skip_alike, put_alike}
 use Rattle.core_model.proofs.Uses.{touch_on, conds_on, filled_on, touched_buffer, bound_fits, bound_on, bound_named, live_allows, names_more}
@@ -111,7 +111,7 @@ page_allows t f number b i rs (Retired n since bound) p h = absurd p
 page_allows t f number b i rs (Paged n since bound) p h = (omega (arith, p), inr (or_right (bound i) (in_ranges rs b i) h))
 page_allows t f number b i rs Dropped p h = absurd p
 
-live_of_buffer : (r : ℕ) (o : Owner) → IsLive r o → IsOfBuffer o
+pub live_of_buffer : (r : ℕ) (o : Owner) → IsLive r o → IsOfBuffer o
 live_of_buffer r Unmade l = l
 live_of_buffer r (Home n) l = l
 live_of_buffer r (Returning n) l = l
@@ -364,10 +364,12 @@ module _ (meaning : Meaning) (reading : Reading) (script : Script) (lawful : IsL
     done_opened : Opened meaning script done
     done_opened =
         opened_command meaning script binding binding_opened d (least_conflict old.recent d) refl
-        (subst (AllByRecursion (λ t. t.range.from < t.range.to)) (sym touched)
-        (filled, filled_on old.blocks ts
-        (subst (λ t. AllByRecursion (λ t. t.range.from < t.range.to) (target_touches t ++ cond_touches skip)) is_target
-        (lawful.filled old.past call item ends (Stage bytes target skip) bound turns here))))
+        (subst (AllByRecursion (λ t. t.range.from < t.range.to)) (sym touched) (
+          filled,
+          filled_on old.blocks ts
+              (subst (λ t. AllByRecursion (λ t. t.range.from < t.range.to) (target_touches t ++ cond_touches skip)) is_target
+              (lawful.filled old.past call item ends (Stage bytes target skip) bound turns here)),
+        ))
         may_touch is_named
 
     left_now : left_by meaning done ≡ world_step meaning (command_entry d (open_number old) (epoch_after (caused old.recent d (least_conflict old.recent d)) old.epoch))

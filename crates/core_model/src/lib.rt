@@ -5,8 +5,6 @@
 ghost use Rattle.std.specs.Prelude.{◌≡◌, ℕ, Bool, true, false, Option, List, [], ◌∷◌, ◌++◌};
 ghost use Rattle.dx_types.specs.declared.range.Range.{Range};
 ghost use Rattle.vk_types.specs.Covered.{Covered};
-ghost use Rattle.vk_types.specs.declared.command.Work.{Work};
-ghost use Rattle.vk_types.specs.declared.command.Cond.{Cond};
 ghost use Rattle.vk_types.specs.declared.op.VkOp.{VkOp};
 ghost use Rattle.vk_types.specs.Effects.{Meaning};
 ghost use Rattle.vk_types.specs.Entries.{EntriesCovered, EntriesKeep, run_entries, start_counts};
@@ -15,7 +13,7 @@ ghost use Rattle.vk_types.specs.Allowed.{IsAllowed, outcome};
 ghost use Rattle.vk_types.specs.Lists.{IsReordering};
 ghost use Rattle.vk_types.specs.Memory.{zeros};
 ghost use Rattle.vk_types.specs.RunListing.{IsRunListing, SameOrder};
-ghost use Rattle.core_model.specs.Script.{Command, Destroy, Create_shader, Mark_query, Set_state, Ask, Constant, Turn, Asked, Item, is_plain, Script};
+ghost use Rattle.core_model.specs.Script.{Play, Ask, Constant, Turn, Asked, Item, is_plain, Script};
 ghost use Rattle.core_model.specs.Chunking.{is_due, cut, chunks};
 ghost use Rattle.core_model.specs.CoreState.{Core, start, flat, rests, on_device, listed, done, Still_said, End_said};
 ghost use Rattle.core_model.specs.Adding.{with_turn, with_reply};
@@ -30,6 +28,7 @@ ghost use Rattle.core_model.specs.RunReads.{ReadsStaging, listed_entries};
 ghost use Rattle.core_model.specs.Listed.{plain_entries};
 ghost use Rattle.core_model.specs.Lawful.{IsLawful};
 ghost use Rattle.core_model.specs.Invariant.{turns_of, handed, commands_of, IsSized, IsBounded, Good};
+ghost use Rattle.core_model.specs.Kept.{Kept};
 ghost use Rattle.core_model.specs.WorkedLogs.{no_shaders, update_copy_map, PlaysUpdateCopyMap, PlaysFiveBuffers};
 
 /// What the definitions give for two small logs: the whole run, with its replies and its listing. The first log is all that
@@ -61,62 +60,40 @@ pub fn counts_order_runs()
         → IsRunListing staging ops → ReadsStaging staging ops → EntriesCovered (listed_entries contents ops) → Covered ops }
 {}
 
-/// The invariant of runs holds as one begins, and these steps keep it, by any choice and in each reading: App takes posts, hands
-/// a chunk over, goes past calls that add no entry, answers a call as pending or by a constant, takes an item that creates a
-/// shader, marks a query, only binds, runs a command or destroys a buffer, or ends; and each step of each other part.
+/// The invariant of runs, with what holds beside it of blocks, pages and bound bytes, holds as one begins, and these steps keep
+/// it, by any choice and in each reading, in a lawful script: App takes posts, hands a chunk over, goes past calls that add no
+/// entry, answers a call as pending or by a constant, takes any item, or ends; and each step of each other part.
 pub fn steps_keep_the_invariant()
-    ensures start { (meaning : Meaning) (reading : Reading) (script : Script) → Good meaning reading script (start script) }
+    ensures start { (meaning : Meaning) (reading : Reading) (script : Script) → Kept meaning reading script (start script) }
     ensures posts { (meaning : Meaning) (reading : Reading) (script : Script) (n : ℕ) (old mid : Core)
-        → TakesPosts n old mid → Good meaning reading script old → Good meaning reading script (with_fence n mid) }
+        → TakesPosts n old mid → Kept meaning reading script old → Kept meaning reading script (with_fence n mid) }
     ensures hand_over { (meaning : Meaning) (reading : Reading) (script : Script) (old : Core)
-        → may_hand_over reading old ≡ true → is_due script old.open_chunk.turns old.future ≡ true
-        → Good meaning reading script old → Good meaning reading script (handed_over old) }
+        → is_due script old.open_chunk.turns old.future ≡ true → may_hand_over reading old ≡ true
+        → Kept meaning reading script old → Kept meaning reading script (handed_over old) }
     ensures turns { (meaning : Meaning) (reading : Reading) (script : Script) (old : Core) (turn : Turn) (turns : List Turn) (new : Core)
         → is_plain turn ≡ true → old.future ≡ turn ∷ turns → is_due script old.open_chunk.turns old.future ≡ false
         → TakesTurn reading script turn turns old new
-        → Good meaning reading script old → Good meaning reading script new }
+        → Kept meaning reading script old → Kept meaning reading script new }
     ensures pending { (meaning : Meaning) (reading : Reading) (script : Script) (old : Core)
         (call : ℕ) (ask : Ask) (used : Option ℕ) (may_pend : Bool) (turns : List Turn)
         → old.future ≡ Asked call ask used may_pend ∷ turns → is_due script old.open_chunk.turns old.future ≡ false
-        → is_finished used (done old) ≡ false → Good meaning reading script old
-        → Good meaning reading script (with_reply (Still_said call (used_or_zero used) (done old)) (with_turn (Asked call ask used may_pend) turns old)) }
+        → is_finished used (done old) ≡ false → Kept meaning reading script old
+        → Kept meaning reading script (with_reply (Still_said call (used_or_zero used) (done old)) (with_turn (Asked call ask used may_pend) turns old)) }
     ensures constants { (meaning : Meaning) (reading : Reading) (script : Script) (old : Core)
         (call value : ℕ) (used : Option ℕ) (may_pend : Bool) (turns : List Turn) (new : Core)
         → old.future ≡ Asked call (Constant value) used may_pend ∷ turns → is_due script old.open_chunk.turns old.future ≡ false
         → TakesTurn reading script (Asked call (Constant value) used may_pend) turns old new
-        → Good meaning reading script old → Good meaning reading script new }
-    ensures shaders { (meaning : Meaning) (reading : Reading) (script : Script) (old : Core)
-        (call item : ℕ) (ends : Bool) (bound : List Range) (turns : List Turn) (new : Core)
-        → old.future ≡ Item call item ends Create_shader bound ∷ turns → is_due script old.open_chunk.turns old.future ≡ false
-        → TakesTurn reading script (Item call item ends Create_shader bound) turns old new
-        → Good meaning reading script old → Good meaning reading script new }
-    ensures queries { (meaning : Meaning) (reading : Reading) (script : Script) (old : Core)
-        (call item : ℕ) (ends : Bool) (query : ℕ) (begins : Bool) (bound : List Range) (turns : List Turn) (new : Core)
-        → old.future ≡ Item call item ends (Mark_query query begins) bound ∷ turns
-        → is_due script old.open_chunk.turns old.future ≡ false
-        → TakesTurn reading script (Item call item ends (Mark_query query begins) bound) turns old new
-        → Good meaning reading script old → Good meaning reading script new }
-    ensures bindings { (meaning : Meaning) (reading : Reading) (script : Script) → IsLawful meaning script → (old : Core)
-        (call item : ℕ) (ends : Bool) (bound : List Range) (turns : List Turn) (new : Core)
-        → old.future ≡ Item call item ends Set_state bound ∷ turns → is_due script old.open_chunk.turns old.future ≡ false
-        → TakesTurn reading script (Item call item ends Set_state bound) turns old new
-        → Good meaning reading script old → Good meaning reading script new }
-    ensures commands { (meaning : Meaning) (reading : Reading) (script : Script) → IsLawful meaning script → (old : Core)
-        (call item : ℕ) (ends : Bool) (work : Work) (skip : Option Cond) (bound : List Range) (turns : List Turn) (new : Core)
-        → old.future ≡ Item call item ends (Command work skip) bound ∷ turns → is_due script old.open_chunk.turns old.future ≡ false
-        → TakesTurn reading script (Item call item ends (Command work skip) bound) turns old new
-        → Good meaning reading script old → Good meaning reading script new }
-    ensures destroys { (meaning : Meaning) (reading : Reading) (script : Script) (old : Core)
-        (call item : ℕ) (ends : Bool) (buffer : ℕ) (bound : List Range) (turns : List Turn) (new : Core)
-        → old.future ≡ Item call item ends (Destroy buffer) bound ∷ turns
-        → is_due script old.open_chunk.turns old.future ≡ false
-        → TakesTurn reading script (Item call item ends (Destroy buffer) bound) turns old new
-        → Good meaning reading script old → Good meaning reading script new }
+        → Kept meaning reading script old → Kept meaning reading script new }
+    ensures items { (meaning : Meaning) (reading : Reading) (script : Script) → IsLawful meaning script → (old : Core)
+        (call item : ℕ) (ends : Bool) (play : Play) (bound : List Range) (turns : List Turn) (new : Core)
+        → old.future ≡ Item call item ends play bound ∷ turns → is_due script old.open_chunk.turns old.future ≡ false
+        → TakesTurn reading script (Item call item ends play bound) turns old new
+        → Kept meaning reading script old → Kept meaning reading script new }
     ensures ended { (meaning : Meaning) (reading : Reading) (script : Script) (old : Core)
-        → Good meaning reading script old → Good meaning reading script (with_reply End_said (record old { ended = true })) }
+        → Kept meaning reading script old → Kept meaning reading script (with_reply End_said (record old { ended = true })) }
     ensures others { (meaning : Meaning) (reading : Reading) (script : Script) (old : Core) (e : Event) (new : Core)
         → is_of_app e ≡ false → Step meaning reading script old e new
-        → Good meaning reading script old → Good meaning reading script new }
+        → Kept meaning reading script old → Kept meaning reading script new }
 {}
 
 /// What the invariant says of each state. The chunks that were handed over, and what is cut of the rest, are the script's, and
