@@ -1,5 +1,5 @@
 -- Each item that App takes keeps the invariant and what holds beside it, in a lawful script.
-use Rattle.std.proofs.Common.{◌≡◌, ℕ, suc, ◌+◌, ◌<◌, ◌≤◌, Bool, true, false, cond, max, ◌==◌, nat_le, List, [], ◌∷◌, ◌++◌, length, map, refl, sym, ap, ◌∙◌, subst, inl, inr, Option, Some, None, arith}
+use Rattle.std.proofs.Common.{◌≡◌, ℕ, suc, ◌+◌, ◌<◌, ◌≤◌, Bool, true, false, cond, max, ◌||◌, ◌==◌, nat_le, List, [], ◌∷◌, ◌++◌, length, map, refl, sym, ap, ◌∙◌, subst, inl, inr, Option, Some, None, arith}
 use Rattle.std.specs.List.{AllByRecursion}
 use Rattle.std.proofs.lemmas.Bool.{both_ways, cases_Bool, eqb-true, eq-eqb}
 use Rattle.dx_types.specs.declared.range.Range.{Range}
@@ -8,29 +8,32 @@ use Rattle.vk_types.specs.declared.message.Placed.{Placed}
 use Rattle.vk_types.specs.declared.op.VkOp.{VkOp}
 use Rattle.vk_types.specs.Memory.{range, number_at}
 use Rattle.vk_types.specs.Effects.{Meaning}
+use Rattle.vk_types.specs.Entries.{Entry}
 use Rattle.core_model.specs.Script.{Play, Create, Discard, No_overwrite, Stage, Command, Destroy, Create_shader, Mark_query, Set_state, Turn, Item, Script, padded, updated}
-use Rattle.core_model.specs.Chunking.{is_due}
+use Rattle.core_model.specs.Chunking.{is_due, is_entry, entry_count}
 use Rattle.core_model.specs.Renaming.{block_of, range_on, work_on, cond_on}
-use Rattle.core_model.specs.CoreState.{Owner, Live, has_class, Board, Pool, Core, taken_count, finished_count, open_number}
+use Rattle.core_model.specs.CoreState.{Owner, Unmade, Live, has_class, Board, Pool, Core, later, taken_count, finished_count, open_number}
 use Rattle.core_model.specs.Readings.{Reading}
 use Rattle.core_model.specs.Owners.{nothing_bound, bind_owner, retire_owner, retired}
 use Rattle.core_model.specs.Placing.{Staged}
-use Rattle.core_model.specs.Adding.{with_turn, with_write, with_placed, placed_at, fenced, plays_command, with_bound, with_staging, add_staging, without_block, gives_block, with_page, staged_range, staged_command, length_of, page_owner, retired_by}
+use Rattle.core_model.specs.Adding.{has_block, with_turn, with_write, with_placed, placed_at, fenced, plays_command, with_bound, with_staging, add_staging, without_block, gives_block, with_page, staged_range, staged_command, length_of, page_owner, retired_by}
 use Rattle.core_model.specs.AppActs.{TakesTurn}
 use Rattle.core_model.specs.Playing.{HasBlock}
 use Rattle.core_model.specs.Lawful.{resets, Fits, PlaysRightly, IsLawful}
 use Rattle.core_model.specs.Invariant.{IsLive, Good}
-use Rattle.core_model.specs.Kept.{PlacesRight, Beside, Kept}
+use Rattle.core_model.specs.Kept.{IsOfBuffer, IsMade, PlacesRight, Beside, Traced, IsTraced, Kept}
 use Rattle.core_model.proofs.Turning.{shader_good, mark_good}
 use Rattle.core_model.proofs.Binding.{bind_good}
-use Rattle.core_model.proofs.Destroying.{destroy_good}
+use Rattle.core_model.proofs.Destroying.{found, destroy_good}
 use Rattle.core_model.proofs.Working.{work_good}
 use Rattle.core_model.proofs.Overwriting.{overwrite_good}
-use Rattle.core_model.proofs.Giving.{IsVacant, vacant_lives, vacant_buffer, stocked, vacant, has_parts}
+use Rattle.core_model.proofs.Giving.{IsVacant, vacant_lives, vacant_buffer, stocked, vacant, own_unmade, has_parts}
 use Rattle.core_model.proofs.Discarding.{not_retired, discard_good}
 use Rattle.core_model.proofs.Creating.{create_good}
-use Rattle.core_model.proofs.Staging.{page_ready, stage_good}
+use Rattle.core_model.proofs.Staging.{live_of_buffer, page_ready, stage_good}
+use Rattle.core_model.proofs.Tracing.{entries_last, one_entry, traced_bare, traced_bound, traced_blocks}
 use Rattle.core_model.proofs.KeptSteps.{places_later}
+use Rattle.core_model.proofs.KeptTurns.{BesideAnd}
 use Rattle.core_model.proofs.KeptItems.{unconcerned, quiet_beside, bound_beside, retired_beside, destroyed_beside}
 use Rattle.core_model.proofs.KeptBlocks.{had_places, had_newest, own_classless, given_beside}
 use Rattle.core_model.proofs.KeptPages.{page_put, staged_beside}
@@ -44,8 +47,18 @@ write_beside script call r (x ∷ xs) core b = unconcerned script core (with_wri
 placed_beside : (script : Script) (p : Placed) (core : Core) → Beside script core → Beside script (with_placed p core)
 placed_beside script p core b = unconcerned script core (with_placed p core) b
 
-same_fenced : (old new : Core) → taken_count new ≡ taken_count old → old.fence ≤ new.fence → taken_count old ≤ old.fence → taken_count new ≤ new.fence
-same_fenced old new e l f = omega (arith, e, l, f)
+-- nor of the turns that the chunks have, once the open chunk has an item
+write_traced : (script : Script) (call : ℕ) (r : Range) (l : List ℕ) (core : Core) → (entry_count core.open_chunk.turns ≡ 0 → ⊥) → IsTraced script core → IsTraced script (with_write call r l core)
+write_traced script call r [] core some h = h
+write_traced script call r (x ∷ xs) core some h = record { past = h.past; used = h.used; used_open = h.used_open; quiet = λ none. absurd (some none) }
+
+-- an item is an entry
+has_entry : (ts : List Turn) (t : Turn) → is_entry t ≡ true → entry_count (ts ++ t ∷ []) ≡ 0 → ⊥
+has_entry ts t entry none =
+    let l = entries_last ts t in
+    let one = one_entry t entry in
+    let z : ⊥ = omega (arith, none, l, one) in
+    z
 
 -- A block is taken ----------------------------------------------------------------------------------------------------------------
 
@@ -130,14 +143,31 @@ module _ (meaning : Meaning) (reading : Reading) (script : Script) (lawful : IsL
       by [] b = placed_beside script (placed_at call item (Some block) None None) _ b
       by (x ∷ xs) b = placed_beside script (placed_at call item (Some block) None None) _ (write_beside script call (range block 0 (length_of script buffer)) (x ∷ xs) _ b)
 
+  with_traced : (listing : List VkOp) (fence : ℕ) → IsTraced script (whole (record (with_turn turn turns old) { board = new_board; pool = new_pool; listing = listing; fence = fence }))
+  with_traced listing fence =
+      write_traced script call (range block 0 (length_of script buffer)) (padded 0 bytes (length_of script buffer))
+      (gives_block buffer block (record (with_turn turn turns old) { board = new_board; pool = new_pool; listing = listing; fence = fence })) (has_entry old.open_chunk.turns turn refl)
+      (traced_blocks script old.blocks old.past (old.taken ++ later old) old.open_chunk.turns old.open_chunk.bound old.open_chunk.writes old.open_chunk.commands k.traced turn refl old.is_staging old.owner old.open_chunk.staging
+      (updated buffer (Some block) old.blocks) old.open_chunk.writes old.open_chunk.commands
+      (λ r b st is.
+      elim (cases_Bool (r == buffer)) [
+        | inl x ↦
+            let there : Some block ≡ Some b = sym (ap (λ c. cond c (Some block) (old.blocks r)) x) ∙ is in
+            let same : block ≡ b = cc there in
+            let un = own_unmade reading script buffer block (with_turn turn turns old) mid h (lawful.staging buffer (ap script.is_staging (sym (eqb-true r buffer x)) ∙ st)) (stocked old k.beside.places) in
+            inr (λ made. let z : IsMade Unmade = subst IsMade un (subst (λ b. IsMade (old.owner b)) (sym same) made) in z)
+        | inr f ↦ inl (sym (ap (λ c. cond c (Some block) (old.blocks r)) f) ∙ is)
+      ])
+      k.beside.named k.beside.named_open)
+
   by_fence : (c : Bool) → let n = retired_by (old.owner block) in let core = record (with_turn turn turns old) { board = new_board; pool = new_pool } in
-      let new = whole (cond c core (record core { listing = old.listing ++ op.Fence n ∷ []; fence = max old.fence n })) in Beside script new × (taken_count new ≤ new.fence)
-  by_fence true = (with_fence old.listing old.fence (omega arith), by (padded 0 bytes (length_of script buffer)))
+      let new = whole (cond c core (record core { listing = old.listing ++ op.Fence n ∷ []; fence = max old.fence n })) in BesideAnd script new
+  by_fence true = (with_fence old.listing old.fence (omega arith), by (padded 0 bytes (length_of script buffer)), with_traced old.listing old.fence)
     where
       by : (l : List ℕ) → (let c = with_write call (range block 0 (length_of script buffer)) l (gives_block buffer block (record (with_turn turn turns old) { board = new_board; pool = new_pool })) in taken_count c ≤ c.fence)
       by [] = k.fenced
       by (x ∷ xs) = k.fenced
-  by_fence false = (with_fence (old.listing ++ op.Fence (retired_by (old.owner block)) ∷ []) (max old.fence (retired_by (old.owner block))) (omega arith), by (padded 0 bytes (length_of script buffer)))
+  by_fence false = (with_fence (old.listing ++ op.Fence (retired_by (old.owner block)) ∷ []) (max old.fence (retired_by (old.owner block))) (omega arith), by (padded 0 bytes (length_of script buffer)), with_traced (old.listing ++ op.Fence (retired_by (old.owner block)) ∷ []) (max old.fence (retired_by (old.owner block))))
     where
       more : taken_count old ≤ max old.fence (retired_by (old.owner block))
       more = let f = k.fenced in omega (arith, f)
@@ -151,11 +181,11 @@ module _ (meaning : Meaning) (reading : Reading) (script : Script) (lawful : IsL
 
 create_kept : (meaning : Meaning) (reading : Reading) (script : Script) → IsLawful meaning script → (old : Core) (call item : ℕ) (ends : Bool) (buffer : ℕ) (bytes : List ℕ) (bound : List Range)
     (turns : List Turn) (new : Core) → TakesTurn reading script (Item call item ends (Create buffer bytes) bound) turns old new → Kept meaning reading script old
-    → Beside script new × (taken_count new ≤ new.fence)
+    → BesideAnd script new
 create_kept meaning reading script lawful old call item ends buffer bytes bound turns new n k =
     let block = n.0 in
     let p = parts meaning reading script lawful old call item ends buffer (Create buffer bytes) bound turns k (λ r n. others_go_on r buffer n) block n.1 n.2 in
-    subst (λ c. Beside script c × (taken_count c ≤ c.fence))
+    subst (BesideAnd script)
     (sym (n.3 ∙ ap (λ mid. with_placed (placed_at call item (Some block) None None)
     (record (with_write call (range block 0 (length_of script buffer)) (padded 0 bytes (length_of script buffer)) (gives_block buffer block (fenced (retired_by (old.owner block)) mid)))
     { copies = updated block (number_at bytes) mid.copies; is_staging = updated block (script.is_staging buffer) mid.is_staging })) p.2))
@@ -205,15 +235,29 @@ module _ (meaning : Meaning) (reading : Reading) (script : Script) (lawful : IsL
       old.is_staging old.copies
       (was_not meaning reading script lawful old call item ends buffer (Discard buffer from bytes) bound turns k (λ r n. others_go_on r buffer n) block mid h ∙ sym not_staging) (λ c n. refl)))
 
+  discard_traced : (listing : List VkOp) (fence : ℕ) → IsTraced script (discarded (record (with_turn its_turn turns old) { board = its_board; pool = its_pool; owner = own; listing = listing; fence = fence }))
+  discard_traced listing fence =
+      write_traced script call (range block 0 (script.size buffer)) (padded from bytes (script.size buffer))
+      (gives_block buffer block (record (with_turn its_turn turns old) { board = its_board; pool = its_pool; owner = own; listing = listing; fence = fence })) (has_entry old.open_chunk.turns its_turn refl)
+      (traced_blocks script old.blocks old.past (old.taken ++ later old) old.open_chunk.turns old.open_chunk.bound old.open_chunk.writes old.open_chunk.commands k.traced its_turn refl old.is_staging old.owner
+      old.open_chunk.staging (updated buffer (Some block) old.blocks) old.open_chunk.writes old.open_chunk.commands
+      (λ r b st is.
+      elim (cases_Bool (r == buffer)) [
+        | inl x ↦ absurd (both_ways (script.is_staging buffer) not_staging (ap script.is_staging (sym (eqb-true r buffer x)) ∙ st))
+        | inr f ↦ inl (sym (ap (λ c. cond c (Some block) (old.blocks r)) f) ∙ is)
+      ])
+      k.beside.named k.beside.named_open)
+
   write_fence : (l : List ℕ) (r : Range) (core : Core) → taken_count core ≤ core.fence → (let c = with_write call r l core in taken_count c ≤ c.fence)
   write_fence [] r core f = f
   write_fence (x ∷ xs) r core f = f
 
   discard_by_fence : (c : Bool) → let n = retired_by (old.owner block) in let core = record (with_turn its_turn turns old) { board = its_board; pool = its_pool; owner = own } in
-      let new = discarded (cond c core (record core { listing = old.listing ++ op.Fence n ∷ []; fence = max old.fence n })) in Beside script new × (taken_count new ≤ new.fence)
+      let new = discarded (cond c core (record core { listing = old.listing ++ op.Fence n ∷ []; fence = max old.fence n })) in BesideAnd script new
   discard_by_fence true = (
     discard_fence old.listing old.fence (omega arith),
     write_fence (padded from bytes (script.size buffer)) (range block 0 (script.size buffer)) (gives_block buffer block (record (with_turn its_turn turns old) { board = its_board; pool = its_pool; owner = own })) k.fenced,
+    discard_traced old.listing old.fence,
   )
   discard_by_fence false = (
     discard_fence (old.listing ++ op.Fence (retired_by (old.owner block)) ∷ []) (max old.fence (retired_by (old.owner block))) (omega arith),
@@ -225,15 +269,16 @@ module _ (meaning : Meaning) (reading : Reading) (script : Script) (lawful : IsL
           listing = old.listing ++ op.Fence (retired_by (old.owner block)) ∷ [];
           fence = max old.fence (retired_by (old.owner block));
         })) (let f = k.fenced in let z : taken_count old ≤ max old.fence (retired_by (old.owner block)) = omega (arith, f) in z),
+    discard_traced (old.listing ++ op.Fence (retired_by (old.owner block)) ∷ []) (max old.fence (retired_by (old.owner block))),
   )
 
 discard_kept : (meaning : Meaning) (reading : Reading) (script : Script) → IsLawful meaning script → (old : Core) (call item : ℕ) (ends : Bool) (buffer from : ℕ) (bytes : List ℕ) (bound : List Range)
     (turns : List Turn) (new : Core) → old.future ≡ Item call item ends (Discard buffer from bytes) bound ∷ turns
-    → TakesTurn reading script (Item call item ends (Discard buffer from bytes) bound) turns old new → Kept meaning reading script old → Beside script new × (taken_count new ≤ new.fence)
+    → TakesTurn reading script (Item call item ends (Discard buffer from bytes) bound) turns old new → Kept meaning reading script old → BesideAnd script new
 discard_kept meaning reading script lawful old call item ends buffer from bytes bound turns new e n k =
     let block = n.0 in
     let p = parts meaning reading script lawful old call item ends buffer (Discard buffer from bytes) bound turns k (λ r n. others_go_on r buffer n) block n.1 n.2 in
-    subst (λ c. Beside script c × (taken_count c ≤ c.fence))
+    subst (BesideAnd script)
     (sym (n.3 ∙ ap (λ mid. with_placed (placed_at call item (Some block) (old.blocks buffer) None)
     (with_write call (range block 0 (script.size buffer)) (padded from bytes (script.size buffer))
     (gives_block buffer block (fenced (retired_by (old.owner block)) (record mid { owner = retired (old.blocks buffer) (open_number old) mid.owner }))))) p.2))
@@ -245,15 +290,29 @@ module _ (meaning : Meaning) (reading : Reading) (script : Script) (lawful : IsL
     (k : Kept meaning reading script old) where
   -- nothing is bound anew and nothing is taken
   quiet_kept : (play : Play) (rhs base : Core) → ((r : ℕ) → resets r (Item call item ends play bound) ≡ false) → new ≡ rhs → (Beside script (record old { past = old.past ++ Item call item ends play bound ∷ [] }) → Beside script rhs)
-      → taken_count rhs ≤ rhs.fence → Beside script new × (taken_count new ≤ new.fence)
-  quiet_kept play rhs base quiet n b f =
-      subst (λ c. Beside script c × (taken_count c ≤ c.fence)) (sym n) (b (quiet_beside script old (Item call item ends play bound) quiet k.beside), f)
+      → taken_count rhs ≤ rhs.fence → IsTraced script rhs → BesideAnd script new
+  quiet_kept play rhs base quiet n b f tr =
+      subst (BesideAnd script) (sym n) (b (quiet_beside script old (Item call item ends play bound) quiet k.beside), f, tr)
+
+  -- the open chunk has the item, and binds no more
+  bare_traced : (play : Play) (writes commands : List Entry)
+      → Traced script old.blocks (old.past ++ Item call item ends play bound ∷ []) (old.taken ++ later old) (old.open_chunk.turns ++ Item call item ends play bound ∷ []) old.open_chunk.bound writes commands
+  bare_traced play writes commands =
+      traced_bare script old.blocks old.past (old.taken ++ later old) old.open_chunk.turns old.open_chunk.bound old.open_chunk.writes old.open_chunk.commands k.traced (Item call item ends play bound) refl writes commands
 
   place : (play : Play) → old.future ≡ Item call item ends play bound ∷ turns → script.turns ≡ old.past ++ Item call item ends play bound ∷ turns
   place play e = sym (ap (λ l. old.past ++ l) (sym e) ∙ k.good.sound.position)
 
   fits : (play : Play) → old.future ≡ Item call item ends play bound ∷ turns → AllByRecursion (λ r. Fits meaning script old.past r × (r.from < r.to)) bound
   fits play e = lawful.fits old.past call item ends play bound turns (place play e)
+
+  -- or it binds these ranges, with others of no buffer
+  more_traced : (play : Play) → old.future ≡ Item call item ends play bound ∷ turns → (others : List Range) → ((r b : ℕ) → old.blocks r ≡ Some b → has_block b others ≡ false) → (writes commands : List Entry)
+      → Traced script old.blocks (old.past ++ Item call item ends play bound ∷ []) (old.taken ++ later old) (old.open_chunk.turns ++ Item call item ends play bound ∷ [])
+      (old.open_chunk.bound ++ (others ++ map (range_on old.blocks) bound)) writes commands
+  more_traced play e others none writes commands =
+      traced_bound script old.blocks old.past (old.taken ++ later old) old.open_chunk.turns old.open_chunk.bound old.open_chunk.writes old.open_chunk.commands k.traced (Item call item ends play bound) refl meaning _
+      k.good.stands (fits play e) others none writes commands
 
   -- ranges are bound
   bound_kept : (play : Play) → ((r : ℕ) → resets r (Item call item ends play bound) ≡ false) → old.future ≡ Item call item ends play bound ∷ turns
@@ -289,6 +348,14 @@ staged_target : (meaning : Meaning) (script : Script) (old : Core) (call item : 
 staged_target meaning script old call item ends x xs None skip bound turns s pool b = unconcerned script _ (staged_state script old call item ends (x ∷ xs) None skip bound turns s pool) b
 staged_target meaning script old call item ends x xs (Some target) skip bound turns s pool b = unconcerned script _ (staged_state script old call item ends (x ∷ xs) (Some target) skip bound turns s pool) b
 
+staged_traced : (script : Script) (old : Core) (call item : ℕ) (ends : Bool) (x : ℕ) (xs : List ℕ) (target : Option Range) (skip : Option Cond) (bound : List Range) (turns : List Turn) (s : Staged) (pool : Pool)
+    → ((writes commands : List Entry)
+    → Traced script old.blocks (old.past ++ Item call item ends (Stage (x ∷ xs) target skip) bound ∷ []) (old.taken ++ later old) (old.open_chunk.turns ++ Item call item ends (Stage (x ∷ xs) target skip) bound ∷ [])
+    (old.open_chunk.bound ++ (staged_range s (length (x ∷ xs)) ∷ map (range_on old.blocks) bound)) writes commands)
+    → IsTraced script (staged_state script old call item ends (x ∷ xs) target skip bound turns s pool)
+staged_traced script old call item ends x xs None skip bound turns s pool h = h _ _
+staged_traced script old call item ends x xs (Some target) skip bound turns s pool h = h _ _
+
 staged_fence : (old : Core) (call item : ℕ) (ends : Bool) (x : ℕ) (xs : List ℕ) (target : Option Range) (skip : Option Cond) (bound : List Range) (turns : List Turn) (script : Script) (s : Staged) (pool : Pool)
     → taken_count old ≤ old.fence → (let c = staged_state script old call item ends (x ∷ xs) target skip bound turns s pool in taken_count c ≤ c.fence)
 staged_fence old call item ends x xs None skip bound turns script s pool f = f
@@ -296,7 +363,7 @@ staged_fence old call item ends x xs (Some target) skip bound turns script s poo
 
 -- each item
 items_beside : (meaning : Meaning) (reading : Reading) (script : Script) → IsLawful meaning script → (old : Core) (call item : ℕ) (ends : Bool) (play : Play) (bound : List Range) (turns : List Turn) (new : Core)
-    → old.future ≡ Item call item ends play bound ∷ turns → TakesTurn reading script (Item call item ends play bound) turns old new → Kept meaning reading script old → Beside script new × (taken_count new ≤ new.fence)
+    → old.future ≡ Item call item ends play bound ∷ turns → TakesTurn reading script (Item call item ends play bound) turns old new → Kept meaning reading script old → BesideAnd script new
 items_beside meaning reading script lawful old call item ends (Create buffer bytes) bound turns new e n k = create_kept meaning reading script lawful old call item ends buffer bytes bound turns new n k
 items_beside meaning reading script lawful old call item ends (Discard buffer from bytes) bound turns new e n k = discard_kept meaning reading script lawful old call item ends buffer from bytes bound turns new e n k
 items_beside meaning reading script lawful old call item ends (No_overwrite buffer from bytes) bound turns new e n k =
@@ -305,6 +372,7 @@ items_beside meaning reading script lawful old call item ends (No_overwrite buff
     quiet_kept meaning reading script lawful old call item ends bound turns new k (No_overwrite buffer from bytes) _ old (λ r. refl) n
     (λ b. placed_beside script (placed_at call item None None None) _ (write_beside script call r bytes (with_turn t turns old) (unconcerned script _ (with_turn t turns old) b)))
     (by bytes)
+    (write_traced script call r bytes (with_turn t turns old) (has_entry old.open_chunk.turns t refl) (bare_traced meaning reading script lawful old call item ends bound turns new k (No_overwrite buffer from bytes) old.open_chunk.writes old.open_chunk.commands))
   where
     by : (l : List ℕ) → (let c = with_write call (range (block_of old.blocks buffer) from (from + length l)) l (with_turn (Item call item ends (No_overwrite buffer from bytes) bound) turns old) in taken_count c ≤ c.fence)
     by [] = k.fenced
@@ -313,6 +381,7 @@ items_beside meaning reading script lawful old call item ends (Stage [] target s
     let t = Item call item ends (Stage [] target skip) bound in
     quiet_kept meaning reading script lawful old call item ends bound turns new k (Stage [] target skip) _ old (λ r. refl) n
     (λ b. placed_beside script (placed_at call item None None None) _ (unconcerned script _ (with_turn t turns old) b)) k.fenced
+    (bare_traced meaning reading script lawful old call item ends bound turns new k (Stage [] target skip) old.open_chunk.writes old.open_chunk.commands)
 items_beside meaning reading script lawful old call item ends (Stage (x ∷ xs) target skip) bound turns new e n k =
     let play = Stage (x ∷ xs) target skip in
     let s = n.0 in
@@ -325,19 +394,31 @@ items_beside meaning reading script lawful old call item ends (Stage (x ∷ xs) 
     k.beside.pages.apart in
     let b = staged_beside meaning script _ old k.beside k.good.stands k.good.live (Item call item ends play bound) (λ r. refl) (fits meaning reading script lawful old call item ends bound turns new k play e) (length (x ∷ xs)) s pool page
     ready put in
-    subst (λ c. Beside script c × (taken_count c ≤ c.fence)) (sym n.3) (staged_target meaning script old call item ends x xs target skip bound turns s pool b, staged_fence old call item ends x xs target skip bound turns script s pool k.fenced)
+    subst (BesideAnd script) (sym n.3) (staged_target meaning script old call item ends x xs target skip bound turns s pool b, staged_fence old call item ends x xs target skip bound turns script s pool k.fenced,
+    staged_traced script old call item ends x xs target skip bound turns s pool
+    (λ ws cs. more_traced meaning reading script lawful old call item ends bound turns new k play e (staged_range s (length (x ∷ xs)) ∷ []) (λ r b is. no_buffer s r b is ready.strange) ws cs))
+  where
+    no_buffer : (s : Staged) (r b : ℕ) → old.blocks r ≡ Some b → (IsOfBuffer (old.owner s.block) → ⊥) → has_block b (staged_range s (length (x ∷ xs)) ∷ []) ≡ false
+    no_buffer s r b is out =
+        let d : (s.block == b) ≡ false =
+        elim (cases_Bool (s.block == b)) [
+          | inl t ↦ absurd (out (live_of_buffer r (old.owner s.block) (subst (λ b. IsLive r (old.owner b)) (sym (eqb-true s.block b t)) (k.good.live r b is))))
+          | inr f ↦ f
+        ] in
+        ap (λ c. c || false) d
 items_beside meaning reading script lawful old call item ends (Command w skip) bound turns new e n k =
     let play = Command w skip in
     let t = Item call item ends play bound in
-    subst (λ c. Beside script c × (taken_count c ≤ c.fence)) (sym n) (
+    subst (BesideAnd script) (sym n) (
       unconcerned script _ (with_placed (placed_at call item None None None)
           (with_staging script bound (with_bound (map (range_on old.blocks) bound) (plays_command call (work_on old.blocks w) (cond_on old.blocks skip) (with_turn t turns old)))))
           (bound_kept meaning reading script lawful old call item ends bound turns new k play (λ r. refl) e),
       k.fenced,
+      more_traced meaning reading script lawful old call item ends bound turns new k play e [] (λ r b is. refl) _ _,
     )
 items_beside meaning reading script lawful old call item ends (Destroy buffer) bound turns new e n k =
     let t = Item call item ends (Destroy buffer) bound in
-    subst (λ c. Beside script c × (taken_count c ≤ c.fence)) (sym n) (
+    subst (BesideAnd script) (sym n) (
       unconcerned script _ (with_placed (placed_at call item None (old.blocks buffer) None)
           (record (with_turn t turns old) {
             blocks = updated buffer None old.blocks;
@@ -346,23 +427,28 @@ items_beside meaning reading script lawful old call item ends (Destroy buffer) b
           }))
           (destroyed_beside script old call item ends buffer bound k.beside),
       k.fenced,
+      traced_blocks script old.blocks old.past (old.taken ++ later old) old.open_chunk.turns old.open_chunk.bound old.open_chunk.writes old.open_chunk.commands k.traced t refl old.is_staging old.owner
+          old.open_chunk.staging (updated buffer None old.blocks) old.open_chunk.writes old.open_chunk.commands (λ r b st is. inl (found buffer old.blocks r b is).0) k.beside.named k.beside.named_open,
     )
 items_beside meaning reading script lawful old call item ends Create_shader bound turns new e n k =
     let t = Item call item ends Create_shader bound in
     quiet_kept meaning reading script lawful old call item ends bound turns new k Create_shader _ old (λ r. refl) n
     (λ b. unconcerned script _ (with_placed (placed_at call item None None None) (record (with_turn t turns old) { listing = old.listing ++ op.Pipeline call ∷ [] })) b) k.fenced
+    (bare_traced meaning reading script lawful old call item ends bound turns new k Create_shader old.open_chunk.writes old.open_chunk.commands)
 items_beside meaning reading script lawful old call item ends (Mark_query query begins) bound turns new e n k =
     let t = Item call item ends (Mark_query query begins) bound in
     let c = with_turn t turns old in
     quiet_kept meaning reading script lawful old call item ends bound turns new k (Mark_query query begins) _ old (λ r. refl) n
     (λ b. unconcerned script _ (with_placed (placed_at call item None None None)
     (record c { open_chunk = record c.open_chunk { queries = c.open_chunk.queries ++ record { call = call; query = query; begins = begins; before = suc c.commands } ∷ [] } })) b) k.fenced
+    (bare_traced meaning reading script lawful old call item ends bound turns new k (Mark_query query begins) old.open_chunk.writes old.open_chunk.commands)
 items_beside meaning reading script lawful old call item ends Set_state bound turns new e n k =
     let t = Item call item ends Set_state bound in
-    subst (λ c. Beside script c × (taken_count c ≤ c.fence)) (sym n) (
+    subst (BesideAnd script) (sym n) (
       unconcerned script _ (with_placed (placed_at call item None None None) (with_staging script bound (with_bound (map (range_on old.blocks) bound) (with_turn t turns old))))
           (bound_kept meaning reading script lawful old call item ends bound turns new k Set_state (λ r. refl) e),
       k.fenced,
+      more_traced meaning reading script lawful old call item ends bound turns new k Set_state e [] (λ r b is. refl) _ _,
     )
 
 items_good : (meaning : Meaning) (reading : Reading) (script : Script) → IsLawful meaning script → (old : Core) (call item : ℕ) (ends : Bool) (play : Play) (bound : List Range) (turns : List Turn) (new : Core)
@@ -383,4 +469,4 @@ pub items_kept : (meaning : Meaning) (reading : Reading) (script : Script) → I
     → Kept meaning reading script old → Kept meaning reading script new
 items_kept meaning reading script lawful old call item ends play bound turns new e due n k =
     let b = items_beside meaning reading script lawful old call item ends play bound turns new e n k in
-    record { good = items_good meaning reading script lawful old call item ends play bound turns new e due n k; beside = b.0; fenced = b.1 }
+    record { good = items_good meaning reading script lawful old call item ends play bound turns new e due n k; beside = b.0; fenced = b.1; traced = b.2 }

@@ -7,7 +7,7 @@ use Rattle.vk_types.proofs.Lists.{all_map}
 use Rattle.core_model.specs.Script.{Script, updated}
 use Rattle.core_model.specs.CoreState.{Segment, Running, Message, Owner, Unmade, Home, Returning, Spare, Board, Newest, Core, of_messages, of_running, later, taken_count, open_number}
 use Rattle.core_model.specs.Owners.{finish_owner}
-use Rattle.core_model.specs.Kept.{IsPageOf, IsFreeFrom, IsTakenBy, IsOfBuffer, IsMade, bound_at, ArePaged, IsNewest, PlacesRight, PagesRight, Names, Beside}
+use Rattle.core_model.specs.Kept.{IsPageOf, IsFreeFrom, IsTakenBy, IsOfBuffer, IsMade, bound_at, ArePaged, IsNewest, PlacesRight, PagesRight, Names, Beside, Traced, IsTraced}
 use Rattle.core_model.proofs.Segments.{handed_length}
 use Rattle.core_model.proofs.Keeping.{places_by, blocks_by, names_by, named_by, paged_by, finish_keeps, finish_page, finish_free, finish_bound, set_other, set_here}
 
@@ -48,6 +48,20 @@ module _ (script : Script) (old : Core) (posts completions : List Message) (acce
     named_open = b.named_open;
     bound = b.bound;
   }
+
+-- and so do the turns that the chunks have
+abbrev pub Both : Script → Core → Type 0
+Both script core = Beside script core × IsTraced script core
+
+module _ (script : Script) (old : Core) (posts completions : List Message) (accepted : List Running) (submissions batches chunks : List Segment) (requested modules : List ℕ) (memory : ℕ → ℕ → ℕ)
+    (counts : ℕ → ℕ) (ran : List Entry) (owner : ℕ → Owner) (board : Board)
+    (e : of_messages posts ++ (of_messages completions ++ (of_running accepted ++ (submissions ++ (batches ++ chunks)))) ≡ later old) where
+  pub moved_both : Beside script (record old { owner = owner; board = board }) → IsTraced script old
+      → Both script (moved script old posts completions accepted submissions batches chunks requested modules memory counts ran owner board e)
+  moved_both b k = (
+    moved_beside script old posts completions accepted submissions batches chunks requested modules memory counts ran owner board e b,
+    subst (λ l. Traced script old.blocks old.past (old.taken ++ l) old.open_chunk.turns old.open_chunk.bound old.open_chunk.writes old.open_chunk.commands) (sym e) k,
+  )
 
 pub newest_by : (f : ℕ → Owner → Owner) (n : ℕ) (own : ℕ → Owner) (top : Option Newest) → ((b : ℕ) (o : Owner) → IsPageOf n o → IsPageOf n (f b o))
     → ((b at : ℕ) (o : Owner) → IsFreeFrom at o → IsFreeFrom at (f b o)) → IsNewest n own top → IsNewest n (λ b. f b (own b)) top

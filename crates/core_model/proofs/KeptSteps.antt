@@ -14,7 +14,7 @@ use Rattle.core_model.specs.TakingPosts.{with_post, TakesPosts, with_fence}
 use Rattle.core_model.specs.AppActs.{handed_over}
 use Rattle.core_model.specs.OtherParts.{created, counted, snaps_of, values_of}
 use Rattle.core_model.specs.CoreStep.{Event, App, Cs, Pipe, Submit, Accept, Run, Complete, Finish, Come_home, is_of_app, Step}
-use Rattle.core_model.specs.Kept.{IsPageOf, IsTakenBy, AreApart, ArePaged, PlacesRight, PagesRight, Names, Beside, Kept}
+use Rattle.core_model.specs.Kept.{IsPageOf, IsTakenBy, AreApart, ArePaged, PlacesRight, PagesRight, Names, Beside, Traced, IsTraced, Kept}
 use Rattle.core_model.proofs.Worlds.{of_messages-append, of_running-append}
 use Rattle.core_model.proofs.Segments.{behind_six, handed_length}
 use Rattle.core_model.proofs.Heads.{one_more}
@@ -23,49 +23,50 @@ use Rattle.core_model.proofs.Posting.{posts_good}
 use Rattle.core_model.proofs.Start.{start_good}
 use Rattle.core_model.proofs.Steps.{others_good}
 use Rattle.core_model.proofs.Keeping.{places_by, blocks_by, names_by, named_by, paged_by, return_keeps, return_page, return_spare, return_free, return_bound}
-use Rattle.core_model.proofs.KeptMoves.{moved_beside, newest_by, finished_beside, homed_beside}
+use Rattle.core_model.proofs.Tracing.{traced_handed}
+use Rattle.core_model.proofs.KeptMoves.{Both, moved_both, newest_by, finished_beside, homed_beside}
 
 -- The other parts -----------------------------------------------------------------------------------------------------------------
 
-others_beside : (meaning : Meaning) (reading : Reading) (script : Script) (old : Core) (e : Event) (new : Core) → is_of_app e ≡ false → Step meaning reading script old e new → Beside script old → Beside script new
+others_beside : (meaning : Meaning) (reading : Reading) (script : Script) (old : Core) (e : Event) (new : Core) → is_of_app e ≡ false → Step meaning reading script old e new → Both script old → Both script new
 others_beside meaning reading script old (App posts) new h p b = absurd (cc h)
 others_beside meaning reading script old Cs new h p b =
     let s = p.0 in
     let ss = p.1 in
-    subst (Beside script) (sym p.4)
-    (moved_beside script old old.posts old.completions old.accepted old.submissions (old.batches ++ s ∷ []) ss (old.requested ++ created s.turns) old.modules old.memory old.counts old.ran old.owner old.board
-    (ap (λ l. of_messages old.posts ++ (of_messages old.completions ++ (of_running old.accepted ++ (old.submissions ++ l)))) (append_assoc old.batches (s ∷ []) ss ∙ ap (λ l. old.batches ++ l) (sym p.2))) b)
+    subst (Both script) (sym p.4)
+    (moved_both script old old.posts old.completions old.accepted old.submissions (old.batches ++ s ∷ []) ss (old.requested ++ created s.turns) old.modules old.memory old.counts old.ran old.owner old.board
+    (ap (λ l. of_messages old.posts ++ (of_messages old.completions ++ (of_running old.accepted ++ (old.submissions ++ l)))) (append_assoc old.batches (s ∷ []) ss ∙ ap (λ l. old.batches ++ l) (sym p.2))) b.0 b.1)
 others_beside meaning reading script old (Pipe j) new h p b =
-    subst (Beside script) (sym p.2)
-    (moved_beside script old old.posts old.completions old.accepted old.submissions old.batches old.chunks old.requested (old.modules ++ p.0 ∷ []) old.memory old.counts old.ran old.owner old.board refl b)
+    subst (Both script) (sym p.2)
+    (moved_both script old old.posts old.completions old.accepted old.submissions old.batches old.chunks old.requested (old.modules ++ p.0 ∷ []) old.memory old.counts old.ran old.owner old.board refl b.0 b.1)
 others_beside meaning reading script old Submit new h p b =
     let s = p.0 in
     let ss = p.1 in
-    subst (Beside script) (sym p.5)
-    (moved_beside script old old.posts old.completions old.accepted (old.submissions ++ s ∷ []) ss old.chunks old.requested old.modules old.memory old.counts old.ran old.owner old.board
+    subst (Both script) (sym p.5)
+    (moved_both script old old.posts old.completions old.accepted (old.submissions ++ s ∷ []) ss old.chunks old.requested old.modules old.memory old.counts old.ran old.owner old.board
     (ap (λ l. of_messages old.posts ++ (of_messages old.completions ++ (of_running old.accepted ++ l)))
-    (append_assoc old.submissions (s ∷ []) (ss ++ old.chunks) ∙ ap (λ l. old.submissions ++ (l ++ old.chunks)) (sym p.2))) b)
+    (append_assoc old.submissions (s ∷ []) (ss ++ old.chunks) ∙ ap (λ l. old.submissions ++ (l ++ old.chunks)) (sym p.2))) b.0 b.1)
 others_beside meaning reading script old Accept new h p b =
     let s = p.0 in
     let ss = p.1 in
     let begun : Running = record { segment = s; rest = s.commands } in
     let z = old.batches ++ old.chunks in
-    subst (Beside script) (sym p.4)
-    (moved_beside script old old.posts old.completions (old.accepted ++ begun ∷ []) ss old.batches old.chunks old.requested old.modules (run_entries meaning s.writes old.memory) old.counts old.ran old.owner old.board
+    subst (Both script) (sym p.4)
+    (moved_both script old old.posts old.completions (old.accepted ++ begun ∷ []) ss old.batches old.chunks old.requested old.modules (run_entries meaning s.writes old.memory) old.counts old.ran old.owner old.board
     (ap (λ l. of_messages old.posts ++ (of_messages old.completions ++ l))
     (ap (λ l. l ++ (ss ++ z)) (of_running-append old.accepted (begun ∷ [])) ∙ append_assoc (of_running old.accepted) (s ∷ []) (ss ++ z)
-    ∙ ap (λ l. of_running old.accepted ++ (l ++ z)) (sym p.2))) b)
+    ∙ ap (λ l. of_running old.accepted ++ (l ++ z)) (sym p.2))) b.0 b.1)
 others_beside meaning reading script old (Run j) new h p b =
     let front = p.0 in
     let r = p.1 in
     let back = p.2 in
     let x = p.5 in
     let after : Running = record { segment = r.segment; rest = p.4 ++ p.6 } in
-    subst (Beside script) (sym p.10)
-    (moved_beside script old old.posts old.completions (front ++ after ∷ back) old.submissions old.batches old.chunks old.requested old.modules (act_effect meaning x.act old.memory)
+    subst (Both script) (sym p.10)
+    (moved_both script old old.posts old.completions (front ++ after ∷ back) old.submissions old.batches old.chunks old.requested old.modules (act_effect meaning x.act old.memory)
     (counted meaning x.act old.memory old.counts) (old.ran ++ x ∷ []) old.owner old.board
     (ap (λ l. of_messages old.posts ++ (of_messages old.completions ++ (l ++ (old.submissions ++ (old.batches ++ old.chunks)))))
-    (of_running-append front (after ∷ back) ∙ sym (of_running-append front (r ∷ back)) ∙ ap of_running (sym p.3))) b)
+    (of_running-append front (after ∷ back) ∙ sym (of_running-append front (r ∷ back)) ∙ ap of_running (sym p.3))) b.0 b.1)
 others_beside meaning reading script old Complete new h p b =
     let r = p.0 in
     let rs = p.1 in
@@ -75,11 +76,11 @@ others_beside meaning reading script old Complete new h p b =
       values = values_of old.counts (old.taken ++ (of_messages old.posts ++ of_messages old.completions)) r.segment;
     } in
     let z = old.submissions ++ (old.batches ++ old.chunks) in
-    subst (Beside script) (sym p.5)
-    (moved_beside script old old.posts (old.completions ++ m ∷ []) rs old.submissions old.batches old.chunks old.requested old.modules old.memory old.counts old.ran old.owner old.board
+    subst (Both script) (sym p.5)
+    (moved_both script old old.posts (old.completions ++ m ∷ []) rs old.submissions old.batches old.chunks old.requested old.modules old.memory old.counts old.ran old.owner old.board
     (ap (λ l. of_messages old.posts ++ l)
     (ap (λ l. l ++ (of_running rs ++ z)) (of_messages-append old.completions (m ∷ [])) ∙ append_assoc (of_messages old.completions) (r.segment ∷ []) (of_running rs ++ z)
-    ∙ ap (λ l. of_messages old.completions ++ (of_running l ++ z)) (sym p.2))) b)
+    ∙ ap (λ l. of_messages old.completions ++ (of_running l ++ z)) (sym p.2))) b.0 b.1)
 others_beside meaning reading script old Finish new h p b =
     let m = p.0 in
     let ms = p.1 in
@@ -87,12 +88,12 @@ others_beside meaning reading script old Finish new h p b =
     let rest = of_running old.accepted ++ (old.submissions ++ (old.batches ++ old.chunks)) in
     let line : of_messages posts ++ of_messages ms ≡ of_messages old.posts ++ of_messages old.completions =
     sym (of_messages-append posts ms) ∙ ap of_messages (append_assoc old.posts (m ∷ []) ms ∙ ap (λ l. old.posts ++ l) (sym p.2)) ∙ of_messages-append old.posts old.completions in
-    subst (Beside script) (sym p.4)
-    (moved_beside script old posts ms old.accepted old.submissions old.batches old.chunks old.requested old.modules old.memory old.counts old.ran (λ b. finish_owner (suc (finished_count old)) b (old.owner b)) old.board
+    subst (Both script) (sym p.4)
+    (moved_both script old posts ms old.accepted old.submissions old.batches old.chunks old.requested old.modules old.memory old.counts old.ran (λ b. finish_owner (suc (finished_count old)) b (old.owner b)) old.board
     (sym (append_assoc (of_messages posts) (of_messages ms) rest) ∙ ap (λ l. l ++ rest) line ∙ append_assoc (of_messages old.posts) (of_messages old.completions) rest)
-    (finished_beside script old (suc (finished_count old)) b))
+    (finished_beside script old (suc (finished_count old)) b.0) b.1)
 others_beside meaning reading script old (Come_home block place) new h p b =
-    subst (Beside script) (sym p.6) (homed_beside script old block place p.0 p.1 p.2 p.3 p.4 p.5 b)
+    subst (Both script) (sym p.6) (homed_beside script old block place p.0 p.1 p.2 p.3 p.4 p.5 b.0, b.1)
 
 others_fenced : (meaning : Meaning) (reading : Reading) (script : Script) (old : Core) (e : Event) (new : Core) → is_of_app e ≡ false → Step meaning reading script old e new → taken_count old ≤ old.fence
     → taken_count new ≤ new.fence
@@ -110,8 +111,9 @@ pub others_kept : (meaning : Meaning) (reading : Reading) (script : Script) (old
     → Kept meaning reading script old → Kept meaning reading script new
 others_kept meaning reading script old e new h p k = record {
   good = others_good meaning reading script old e new h p k.good;
-  beside = others_beside meaning reading script old e new h p k.beside;
+  beside = (others_beside meaning reading script old e new h p (k.beside, k.traced)).0;
   fenced = others_fenced meaning reading script old e new h p k.fenced;
+  traced = (others_beside meaning reading script old e new h p (k.beside, k.traced)).1;
 }
 
 -- Posts ---------------------------------------------------------------------------------------------------------------------------
@@ -177,6 +179,20 @@ module _ (script : Script) (old : Core) (m : Message) (ms : List Message) (e : o
         bound = λ r c i is h. b.bound r c i is (return_bound n c i (old.owner c) h);
       }
 
+  posted_traced : IsTraced script old → IsTraced script posted
+  posted_traced k =
+      subst (λ l. Traced script old.blocks old.past l old.open_chunk.turns old.open_chunk.bound old.open_chunk.writes old.open_chunk.commands)
+      (sym (append_assoc old.taken (m.segment ∷ []) (later posted) ∙ ap (λ l. old.taken ++ l) (sym later_is))) k
+
+posts_traced : (script : Script) (n : ℕ) (old mid : Core) → TakesPosts n old mid → Beside script old → IsTraced script old → IsTraced script mid
+posts_traced script zero old mid h b k = subst (IsTraced script) (sym h) k
+posts_traced script (suc n) old mid h b k =
+    posts_traced script n (with_post h.0 h.1 old) mid h.3 (posted_beside script old h.0 h.1 h.2 b) (posted_traced script old h.0 h.1 h.2 b k)
+
+fence_traced : (script : Script) (n : ℕ) (core : Core) → IsTraced script core → IsTraced script (with_fence n core)
+fence_traced script zero core k = k
+fence_traced script (suc n) core k = k
+
 posts_beside : (script : Script) (n : ℕ) (old mid : Core) → TakesPosts n old mid → Beside script old → Beside script mid
 posts_beside script zero old mid h b = subst (Beside script) (sym h) b
 posts_beside script (suc n) old mid h b = posts_beside script n (with_post h.0 h.1 old) mid h.3 (posted_beside script old h.0 h.1 h.2 b)
@@ -224,6 +240,7 @@ posts_kept meaning reading script n old mid h k = record {
   good = posts_good meaning reading script n old mid h k.good;
   beside = fence_beside script n mid (posts_beside script n old mid h k.beside);
   fenced = posts_fenced n old mid h k.fenced;
+  traced = fence_traced script n mid (posts_traced script n old mid h k.beside k.traced);
 }
 
 -- A hand-over ---------------------------------------------------------------------------------------------------------------------
@@ -274,6 +291,11 @@ hand_over_kept meaning reading script old due room k = record {
   good = hand_over_good meaning reading script old due room k.good;
   beside = hand_over_beside script old k.beside;
   fenced = k.fenced;
+  traced =
+      let line : later (handed_over old) ≡ later old ++ old.open_chunk ∷ [] =
+      behind_six (of_messages old.posts) (of_messages old.completions) (of_running old.accepted) old.submissions old.batches old.chunks (old.open_chunk ∷ []) in
+      subst (λ l. Traced script old.blocks old.past l [] [] [] []) (append_assoc old.taken (later old) (old.open_chunk ∷ []) ∙ ap (λ l. old.taken ++ l) (sym line))
+      (traced_handed script old.blocks old.past (old.taken ++ later old) old.open_chunk k.traced);
 }
 
 -- As a run begins -------------------------------------------------------------------------------------------------------------------
@@ -304,4 +326,5 @@ start_kept meaning reading script = record {
     bound = λ r b i h. absurd (cc h);
   };
   fenced = omega arith;
+  traced = record { past = refl; used = tt; used_open = λ r b st is n. absurd (cc n); quiet = λ none. (refl, refl) };
 }

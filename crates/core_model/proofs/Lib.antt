@@ -40,13 +40,14 @@ pub mod RunCovered
 pub mod Growing
 pub mod CoreListing
 pub mod Start
+pub mod Tracing
 pub mod KeptMoves
 pub mod KeptSteps
 pub mod KeptItems
 pub mod KeptBlocks
 pub mod KeptPages
-pub mod KeptActs
 pub mod KeptTurns
+pub mod KeptActs
 pub mod Settling
 pub mod WorkedRuns
 pub mod LawfulLog

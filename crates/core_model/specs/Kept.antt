@@ -1,16 +1,18 @@
 -- What holds of a run between steps beside the invariant of what is listed: where blocks and pages stand, which blocks are of
 -- staging buffers, and what is bound.
 use Rattle.std.specs.Prelude.{◌≡◌, ℕ, suc, ◌+◌, ◌*◌, ◌<◌, ◌≤◌, Bool, true, false, List, [], ◌∷◌, ◌++◌, Option, Some, None, slice_get}
-use Rattle.std.specs.List.{AllByRecursion}
+use Rattle.std.specs.List.{list_any, AllByRecursion}
 use Rattle.vk_types.specs.Lists.{Pairwise}
 use Rattle.vk_types.specs.Effects.{Meaning}
+use Rattle.vk_types.specs.Entries.{Entry}
 use Rattle.dx_types.specs.declared.range.Range.{Range}
 use Rattle.core_model.specs.Script.{Turn, Script}
 use Rattle.core_model.specs.CoreState.{Page, Segment, Owner, Unmade, Home, Returning, Spare, Live, Retired, Paged, Dropped, has_class, Board, Newest, Pool, Core, later, taken_count, open_number}
+use Rattle.core_model.specs.Chunking.{entry_count, joined}
 use Rattle.core_model.specs.Readings.{Reading}
 use Rattle.core_model.specs.Adding.{has_block}
-use Rattle.core_model.specs.Lawful.{is_bound}
-use Rattle.core_model.specs.Invariant.{Good}
+use Rattle.core_model.specs.Lawful.{binds_buffer, bound_by, is_bound}
+use Rattle.core_model.specs.Invariant.{turns_of, Good}
 
 -- Owners --------------------------------------------------------------------------------------------------------------------
 
@@ -138,8 +140,28 @@ pub record Beside (script : Script) (core : Core) : Type 0 where
   pub named_open : Names core.is_staging core.owner core.open_chunk.staging core.open_chunk.bound
   pub bound : BoundRight core.blocks core.owner core.past
 
+-- a turn of these binds a byte of the buffer
+abbrev pub uses_buffer : ℕ → List Turn → Bool
+uses_buffer r ts = list_any (λ t. binds_buffer r (bound_by t)) ts
+
+-- where the block of a live staging buffer is bound, a turn binds the buffer
+abbrev pub IsUsed : Script → (ℕ → Option ℕ) → List Turn → List Range → Type 0
+IsUsed script blocks turns bound = (r b : ℕ) → script.is_staging r ≡ true → blocks r ≡ Some b → has_block b bound ≡ true → uses_buffer r turns ≡ true
+
+-- the turns that were taken are those of the chunks, and bind what the chunks bind; without an item the open chunk has no
+-- writes and no commands
+pub record Traced (script : Script) (blocks : ℕ → Option ℕ) (front : List Turn) (chunks : List Segment) (turns : List Turn) (bound : List Range) (writes commands : List Entry) : Type 0 where
+  pub past : front ≡ joined (turns_of chunks) ++ turns
+  pub used : AllByRecursion (λ s. IsUsed script blocks s.turns s.bound) chunks
+  pub used_open : IsUsed script blocks turns bound
+  pub quiet : entry_count turns ≡ 0 → (writes ≡ []) × (commands ≡ [])
+
+abbrev pub IsTraced : Script → Core → Type 0
+IsTraced script core = Traced script core.blocks core.past (core.taken ++ later core) core.open_chunk.turns core.open_chunk.bound core.open_chunk.writes core.open_chunk.commands
+
 -- the invariant of runs, and what holds beside it; the posts that App took are those up to the greatest fence or fewer
 pub record Kept (meaning : Meaning) (reading : Reading) (script : Script) (core : Core) : Type 0 where
   pub good : Good meaning reading script core
   pub beside : Beside script core
   pub fenced : taken_count core ≤ core.fence
+  pub traced : IsTraced script core
