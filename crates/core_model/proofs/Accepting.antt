@@ -52,7 +52,7 @@ pub reads_world : (meaning : Meaning) (rs : List Entry) → AllByRecursion (λ x
 reads_world meaning [] h w = refl
 reads_world meaning (x ∷ rs) h w = ap (run_world meaning rs) (read_world meaning x.act h.0 w) ∙ reads_world meaning rs h.1 w
 
-write_is_host : (a : Act) → is_host_write a ≡ true → is_host a ≡ true
+pub write_is_host : (a : Act) → is_host_write a ≡ true → is_host a ≡ true
 write_is_host (Host_write r bs) h = refl
 write_is_host (Device d) h = absurd (cc h)
 write_is_host (Host_read r) h = absurd (cc h)

@@ -16,7 +16,7 @@ abbrev pub BesideAnd : Script → Core → Type 0
 BesideAnd script c = Beside script c × (taken_count c ≤ c.fence) × IsTraced script c
 
 -- the open chunk has the turn
-turn_traced : (meaning : Meaning) (reading : Reading) (script : Script) (old : Core) (t : Turn) → Kept meaning reading script old
+pub turn_traced : (meaning : Meaning) (reading : Reading) (script : Script) (old : Core) (t : Turn) → Kept meaning reading script old
     → Traced script old.blocks (old.past ++ t ∷ []) (old.taken ++ later old) (old.open_chunk.turns ++ t ∷ []) old.open_chunk.bound old.open_chunk.writes old.open_chunk.commands
 turn_traced meaning reading script old t k =
     traced_turn script old.blocks old.past (old.taken ++ later old) old.open_chunk.turns old.open_chunk.bound old.open_chunk.writes old.open_chunk.commands k.traced t

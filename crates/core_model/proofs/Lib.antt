@@ -46,7 +46,9 @@ pub mod KeptSteps
 pub mod KeptItems
 pub mod KeptBlocks
 pub mod KeptPages
+pub mod LastUses
 pub mod KeptTurns
+pub mod Reading
 pub mod KeptActs
 pub mod Settling
 pub mod WorkedRuns

@@ -69,7 +69,7 @@ return_live n r (Retired k since bound) l = absurd l
 return_live n r (Paged k since bound) l = absurd l
 return_live n r Dropped l = absurd l
 
-used_front : (xs ys : List Segment) (b : ℕ) → used_in (xs ++ ys) b ≡ false → used_in xs b ≡ false
+pub used_front : (xs ys : List Segment) (b : ℕ) → used_in (xs ++ ys) b ≡ false → used_in xs b ≡ false
 used_front [] ys b h = refl
 used_front (x ∷ xs) ys b h = by_head (has_block b x.bound) (λ k. used_front xs ys b k) h
   where
