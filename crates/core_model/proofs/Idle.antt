@@ -12,7 +12,7 @@ use Rattle.vk_types.proofs.Local.{covered}
 use Rattle.core_model.specs.Script.{Script}
 use Rattle.core_model.specs.CoreState.{Segment, flat, Owner, Unmade, Home, Returning, Spare, Live, Retired, Paged, Dropped, Core, of_messages, of_running, waiting, segments, listed, taken_count, finished_count}
 use Rattle.core_model.specs.Readings.{Reading}
-use Rattle.core_model.specs.Stands.{device_touches, touches_block, unfinished, IsFree, FreeIsIdle}
+use Rattle.core_model.specs.Stands.{device_touches, touches_block, unfinished, may_touch, IsFree, FreeIsIdle}
 use Rattle.core_model.specs.Invariant.{Allows, IsSince, KnownIn, IsFilled, Numbered, Good}
 use Rattle.core_model.proofs.Worlds.{flat-append}
 use Rattle.core_model.proofs.Segments.{numbered_back, numbered_above, messages_length}
@@ -107,3 +107,20 @@ module _ (meaning : Meaning) (reading : Reading) (script : Script) (core : Core)
       (all_map (λ x. (finished_count core < x.chunk) × (KnownIn core x × IsFilled x)) (λ x. device_touches x.act b ≡ false) (λ x h. idle_entry b free x h.0 h.1.0 h.1.1) (unfinished core)
       (all_both (λ x. finished_count core < x.chunk) (λ x. KnownIn core x × IsFilled x) (unfinished core) above
       (all_both (KnownIn core) IsFilled (unfinished core) (of_behind (KnownIn core) g.sound.known) (of_behind IsFilled g.sound.filled))))
+
+  made_entry : (b : ℕ) → core.owner b ≡ Unmade → (x : Entry) → KnownIn core x → IsFilled x → device_touches x.act b ≡ false
+  made_entry b e x k f =
+      elim (cases_Bool (device_touches x.act b)) [
+        | inl t ↦
+            let c = command_touches x.act b t in
+            let byte = touches_byte b (act_touches x.act) f c.1 in
+            absurd (subst (λ o. Allows (taken_count core) (finished_count core) o byte.0 x.chunk) e (k.owned c.0 b byte.0 byte.1))
+        | inr n ↦ n
+      ]
+
+  -- nor a block that is not made yet
+  pub made_is_idle : (b : ℕ) → core.owner b ≡ Unmade → may_touch core b ≡ false
+  made_is_idle b e =
+      none_of (λ x. device_touches x.act b) (unfinished core)
+      (all_map (λ x. KnownIn core x × IsFilled x) (λ x. device_touches x.act b ≡ false) (λ x h. made_entry b e x h.0 h.1) (unfinished core)
+      (all_both (KnownIn core) IsFilled (unfinished core) (of_behind (KnownIn core) g.sound.known) (of_behind IsFilled g.sound.filled)))

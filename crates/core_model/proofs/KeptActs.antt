@@ -394,9 +394,12 @@ items_beside meaning reading script lawful old call item ends (Stage (x ∷ xs) 
     k.beside.pages.apart in
     let b = staged_beside meaning script _ old k.beside k.good.stands k.good.live (Item call item ends play bound) (λ r. refl) (fits meaning reading script lawful old call item ends bound turns new k play e) (length (x ∷ xs)) s pool page
     ready put in
-    subst (BesideAnd script) (sym n.3) (staged_target meaning script old call item ends x xs target skip bound turns s pool b, staged_fence old call item ends x xs target skip bound turns script s pool k.fenced,
-    staged_traced script old call item ends x xs target skip bound turns s pool
-    (λ ws cs. more_traced meaning reading script lawful old call item ends bound turns new k play e (staged_range s (length (x ∷ xs)) ∷ []) (λ r b is. no_buffer s r b is ready.strange) ws cs))
+    subst (BesideAnd script) (sym n.3) (
+      staged_target meaning script old call item ends x xs target skip bound turns s pool b,
+      staged_fence old call item ends x xs target skip bound turns script s pool k.fenced,
+      staged_traced script old call item ends x xs target skip bound turns s pool
+          (λ ws cs. more_traced meaning reading script lawful old call item ends bound turns new k play e (staged_range s (length (x ∷ xs)) ∷ []) (λ r b is. no_buffer s r b is ready.strange) ws cs),
+    )
   where
     no_buffer : (s : Staged) (r b : ℕ) → old.blocks r ≡ Some b → (IsOfBuffer (old.owner s.block) → ⊥) → has_block b (staged_range s (length (x ∷ xs)) ∷ []) ≡ false
     no_buffer s r b is out =

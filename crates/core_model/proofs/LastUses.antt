@@ -1,12 +1,12 @@
 -- The last use of a buffer that is finished, as App knows it, was in a chunk whose post it took.
-use Rattle.std.proofs.Common.{◌≡◌, ℕ, zero, suc, ◌+◌, ◌-◌, ◌<◌, ◌≤◌, Bool, true, false, cond, not, ◌&&◌, ◌||◌, nat_le, List, [], ◌∷◌, ◌++◌, refl, sym, ap, ◌∙◌, subst, ◌⊎◌, inl, inr, Option, Some, None, arith, append_assoc, append-nil}
-use Rattle.std.specs.List.{list_any, AllByRecursion}
-use Rattle.std.proofs.lemmas.Bool.{both_ways, cases_Bool, or_cases, leb-true, le-leb}
+use Rattle.std.proofs.Common.{◌≡◌, ℕ, zero, suc, ◌-◌, ◌<◌, ◌≤◌, Bool, true, false, cond, not, ◌&&◌, ◌||◌, nat_le, List, [], ◌∷◌, ◌++◌, refl, sym, ap, ◌∙◌, subst, inl, inr, Option, Some, None, arith, append_assoc, append-nil}
+use Rattle.std.specs.List.{AllByRecursion}
+use Rattle.std.proofs.lemmas.Bool.{cases_Bool, or_cases, leb-true, le-leb}
 use Rattle.std.proofs.lemmas.List.Folds.{list_any-append}
 use Rattle.vk_types.specs.Effects.{Meaning}
-use Rattle.vk_types.proofs.Lists.{all_front, all_back, all_append}
+use Rattle.vk_types.proofs.Lists.{all_back, all_append}
 use Rattle.core_model.specs.Script.{Ask, Turn, Asked, Script}
-use Rattle.core_model.specs.Chunking.{call_of, ends_call, is_entry, entry_count, in_list, is_full, is_due, last_call, joined}
+use Rattle.core_model.specs.Chunking.{call_of, ends_call, entry_count, in_list, is_full, is_due, last_call, joined}
 use Rattle.core_model.specs.CoreState.{Segment, Core, later, last_finished, done}
 use Rattle.core_model.specs.Readings.{Reading}
 use Rattle.core_model.specs.Adding.{has_block}
@@ -15,7 +15,7 @@ use Rattle.core_model.specs.OtherParts.{used_in}
 use Rattle.core_model.specs.Lawful.{bound_by, binds_buffer, last_binding, IsLawful}
 use Rattle.core_model.specs.Invariant.{turns_of}
 use Rattle.core_model.specs.Kept.{uses_buffer, IsUsed, Kept}
-use Rattle.core_model.proofs.Binding.{or_left, or_right}
+use Rattle.core_model.proofs.Binding.{or_right}
 use Rattle.core_model.proofs.Tracing.{joined_last, uses_front}
 
 -- Calls rise --------------------------------------------------------------------------------------------------------------------

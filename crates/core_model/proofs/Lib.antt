@@ -49,6 +49,7 @@ pub mod KeptPages
 pub mod LastUses
 pub mod KeptTurns
 pub mod Reading
+pub mod RunsKept
 pub mod KeptActs
 pub mod Settling
 pub mod WorkedRuns

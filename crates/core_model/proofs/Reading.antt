@@ -1,31 +1,31 @@
 -- A call that reads bytes is answered from the newest copy of the buffer's block, and the host read stands in the listing.
-use Rattle.std.proofs.Common.{◌≡◌, ℕ, zero, suc, ◌+◌, ◌-◌, ◌<◌, ◌≤◌, Bool, true, false, cond, ◌||◌, ◌==◌, nat_lt, nat_le, List, [], ◌∷◌, ◌++◌, map, length, refl, sym, ap, ◌∙◌, subst, ◌⊎◌, inl, inr, Option, Some, None, arith, append_assoc, append-nil}
+use Rattle.std.proofs.Common.{◌≡◌, ℕ, zero, suc, ◌+◌, ◌-◌, ◌<◌, ◌≤◌, Bool, true, false, cond, ◌||◌, nat_lt, nat_le, List, [], ◌∷◌, ◌++◌, map, refl, sym, ap, ◌∙◌, subst, ◌⊎◌, inl, inr, Option, Some, None, arith, append_assoc, append-nil}
 use Rattle.std.specs.List.{AllByRecursion}
 use Rattle.std.proofs.lemmas.Bool.{both_ways, cases_Bool, lt-ltb, le-leb}
 use Rattle.dx_types.specs.declared.range.Range.{Range}
-use Rattle.vk_types.specs.Lists.{Pairwise, numbers_from}
+use Rattle.vk_types.specs.Lists.{numbers_from}
 use Rattle.vk_types.specs.Memory.{covers, zeros, or_zero}
 use Rattle.vk_types.specs.Hazards.{is_touched}
 use Rattle.vk_types.specs.Effects.{Meaning, Act, Host_write, Device, Host_read, act_touches, is_host}
 use Rattle.vk_types.specs.Entries.{Entry, entry_before, entries_conflict, EntriesCovered, run_entries}
 use Rattle.vk_types.proofs.Lists.{all_front, all_back, all_append, all_map, all_both, pairs_append}
 use Rattle.vk_types.proofs.Local.{common, covered_block}
-use Rattle.core_model.specs.Script.{Bytes, Turn, Asked, Script, InOrder, at_start, turn_in_order, in_order}
+use Rattle.core_model.specs.Script.{Bytes, Turn, Asked, Script, InOrder, at_start, in_order}
 use Rattle.core_model.specs.Chunking.{is_due}
 use Rattle.core_model.specs.Renaming.{block_of, range_on}
-use Rattle.core_model.specs.CoreState.{Segment, entries, flat, Core, segments, later, listed, taken_count, finished_count, handed_count, open_number, done, Bytes_said, Still_said}
+use Rattle.core_model.specs.CoreState.{Segment, entries, flat, Core, segments, later, taken_count, open_number, done, Bytes_said}
 use Rattle.core_model.specs.Readings.{Reading}
 use Rattle.core_model.specs.Adding.{has_block, with_turn, with_reply, new_entry}
-use Rattle.core_model.specs.AppActs.{TakesTurn, is_finished, used_or_zero, copied_bytes, with_read}
+use Rattle.core_model.specs.AppActs.{TakesTurn, is_finished, copied_bytes, with_read}
 use Rattle.core_model.specs.OtherParts.{used_in}
 use Rattle.core_model.specs.Stands.{Stands, is_host_write, is_host_read}
 use Rattle.core_model.specs.Listed.{IsListed}
-use Rattle.core_model.specs.Worlds.{World, empty, world_step, run_world}
-use Rattle.core_model.specs.Lawful.{Fits, UsesRightly, AsksRightly, IsLawful}
-use Rattle.core_model.specs.Invariant.{Known, KnownIn, Numbered, IsShaped, BindsTouches, IsFilled, Totals, IsAsked, IsRight, Good}
+use Rattle.core_model.specs.Worlds.{World, empty, run_world}
+use Rattle.core_model.specs.Lawful.{AsksRightly, IsLawful}
+use Rattle.core_model.specs.Invariant.{KnownIn, Numbered, IsShaped, BindsTouches, IsFilled, Totals, IsRight, Good}
 use Rattle.core_model.specs.Kept.{Beside, IsTraced, Kept}
-use Rattle.core_model.proofs.Worlds.{flat-append, run_world-append, world_memory}
-use Rattle.core_model.proofs.Segments.{numbered_front, numbered_below, segments_later}
+use Rattle.core_model.proofs.Worlds.{flat-append, run_world-append}
+use Rattle.core_model.proofs.Segments.{numbered_front, numbered_below}
 use Rattle.core_model.proofs.Accepting.{write_is_host}
 use Rattle.core_model.proofs.Posting.{used_front}
 use Rattle.core_model.proofs.Completing.{none_bound, run_entries-append}

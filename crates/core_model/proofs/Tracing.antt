@@ -1,14 +1,14 @@
 -- The turns that were taken are those of the chunks, and bind what the chunks bind.
-use Rattle.std.proofs.Common.{◌≡◌, ℕ, zero, suc, ◌+◌, ◌<◌, ◌≤◌, Bool, true, false, cond, ◌&&◌, ◌||◌, ◌==◌, nat_lt, List, [], ◌∷◌, ◌++◌, map, refl, sym, ap, ◌∙◌, subst, ◌⊎◌, inl, inr, Option, Some, None, arith, append_assoc, append-nil}
-use Rattle.std.specs.List.{list_any, AllByRecursion}
-use Rattle.std.proofs.lemmas.Bool.{both_ways, cases_Bool, or_cases, eqb-true, eq-eqb, lt-ltb}
+use Rattle.std.proofs.Common.{◌≡◌, ℕ, ◌+◌, ◌<◌, Bool, true, false, cond, ◌&&◌, ◌||◌, ◌==◌, nat_lt, List, [], ◌∷◌, ◌++◌, map, refl, sym, ap, ◌∙◌, ◌⊎◌, inl, inr, Option, Some, arith, append_assoc, append-nil}
+use Rattle.std.specs.List.{AllByRecursion}
+use Rattle.std.proofs.lemmas.Bool.{or_cases, eqb-true, eq-eqb, lt-ltb}
 use Rattle.std.proofs.lemmas.List.Folds.{list_any-append}
 use Rattle.dx_types.specs.declared.range.Range.{Range}
 use Rattle.vk_types.specs.Memory.{or_zero}
 use Rattle.vk_types.specs.Effects.{Meaning}
 use Rattle.vk_types.specs.Entries.{Entry}
 use Rattle.vk_types.proofs.Lists.{all_append, all_map, all_both}
-use Rattle.core_model.specs.Script.{Turn, Script, updated, at_start, in_order}
+use Rattle.core_model.specs.Script.{Turn, Script, at_start, in_order}
 use Rattle.core_model.specs.Chunking.{is_entry, entry_count, joined}
 use Rattle.core_model.specs.Renaming.{BlockMap, block_of, range_on}
 use Rattle.core_model.specs.CoreState.{Segment, Owner}

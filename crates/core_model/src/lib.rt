@@ -2,7 +2,8 @@
 //! in every run. The functions here are empty: each is named for a law, which its clauses state.
 #![tactic(auto)]
 
-ghost use Rattle.std.specs.Prelude.{◌≡◌, ℕ, Bool, true, false, Option, List, [], ◌∷◌, ◌++◌};
+ghost use Rattle.std.specs.Prelude.{◌≡◌, ℕ, Bool, true, false, Option, Some, List, [], ◌∷◌, ◌++◌};
+ghost use Rattle.std.specs.List.{AllByRecursion};
 ghost use Rattle.dx_types.specs.declared.range.Range.{Range};
 ghost use Rattle.vk_types.specs.Covered.{Covered};
 ghost use Rattle.vk_types.specs.declared.op.VkOp.{VkOp};
@@ -13,21 +14,22 @@ ghost use Rattle.vk_types.specs.Allowed.{IsAllowed, outcome};
 ghost use Rattle.vk_types.specs.Lists.{IsReordering};
 ghost use Rattle.vk_types.specs.Memory.{zeros};
 ghost use Rattle.vk_types.specs.RunListing.{IsRunListing, SameOrder};
-ghost use Rattle.core_model.specs.Script.{Play, Ask, Constant, Turn, Asked, Item, is_plain, Script};
+ghost use Rattle.core_model.specs.Script.{Play, Ask, Bytes, Constant, Turn, Asked, Item, is_plain, Script};
 ghost use Rattle.core_model.specs.Chunking.{is_due, cut, chunks};
 ghost use Rattle.core_model.specs.CoreState.{Core, start, flat, rests, on_device, listed, done, Still_said, End_said};
 ghost use Rattle.core_model.specs.Adding.{with_turn, with_reply};
 ghost use Rattle.core_model.specs.Readings.{Reading, Any_choices, First_choices, may_hand_over};
 ghost use Rattle.core_model.specs.AppActs.{TakesTurn, is_finished, used_or_zero, handed_over};
-ghost use Rattle.core_model.specs.CoreStep.{Event, is_of_app, Step, CoreStep};
+ghost use Rattle.core_model.specs.CoreStep.{Event, is_of_app, Step, CoreStep, Chain};
 ghost use Rattle.core_model.specs.Free.{FreeSteps, FreeRun};
-ghost use Rattle.core_model.specs.Stands.{FreeIsIdle};
+ghost use Rattle.core_model.specs.Stands.{may_touch, FreeIsIdle};
 ghost use Rattle.core_model.specs.TakingPosts.{TakesPosts, with_fence};
 ghost use Rattle.core_model.specs.Runs.{IsRun};
+ghost use Rattle.core_model.specs.Playing.{HasBlock};
 ghost use Rattle.core_model.specs.RunReads.{ReadsStaging, listed_entries};
 ghost use Rattle.core_model.specs.Listed.{plain_entries};
-ghost use Rattle.core_model.specs.Lawful.{IsLawful};
-ghost use Rattle.core_model.specs.Invariant.{turns_of, handed, commands_of, IsSized, IsBounded, Good};
+ghost use Rattle.core_model.specs.Lawful.{IsLawful, AsksNoCount};
+ghost use Rattle.core_model.specs.Invariant.{turns_of, handed, commands_of, IsSized, IsBounded, IsRight, Good};
 ghost use Rattle.core_model.specs.Kept.{Kept};
 ghost use Rattle.core_model.specs.WorkedLogs.{no_shaders, update_copy_map, PlaysUpdateCopyMap, PlaysFiveBuffers};
 
@@ -62,7 +64,7 @@ pub fn counts_order_runs()
 
 /// The invariant of runs, with what holds beside it of blocks, pages and bound bytes, holds as one begins, and these steps keep
 /// it, by any choice and in each reading, in a lawful script: App takes posts, hands a chunk over, goes past calls that add no
-/// entry, answers a call as pending or by a constant, takes any item, or ends; and each step of each other part.
+/// entry, answers a call as pending, by a constant or by bytes, takes any item, or ends; and each step of each other part.
 pub fn steps_keep_the_invariant()
     ensures start { (meaning : Meaning) (reading : Reading) (script : Script) → Kept meaning reading script (start script) }
     ensures posts { (meaning : Meaning) (reading : Reading) (script : Script) (n : ℕ) (old mid : Core)
@@ -84,6 +86,11 @@ pub fn steps_keep_the_invariant()
         → old.future ≡ Asked call (Constant value) used may_pend ∷ turns → is_due script old.open_chunk.turns old.future ≡ false
         → TakesTurn reading script (Asked call (Constant value) used may_pend) turns old new
         → Kept meaning reading script old → Kept meaning reading script new }
+    ensures bytes { (meaning : Meaning) (reading : Reading) (script : Script) → IsLawful meaning script → (old : Core)
+        (call : ℕ) (source : Range) (used : Option ℕ) (may_pend : Bool) (turns : List Turn) (new : Core)
+        → old.future ≡ Asked call (Bytes source) used may_pend ∷ turns → is_due script old.open_chunk.turns old.future ≡ false
+        → TakesTurn reading script (Asked call (Bytes source) used may_pend) turns old new
+        → Kept meaning reading script old → Kept meaning reading script new }
     ensures items { (meaning : Meaning) (reading : Reading) (script : Script) → IsLawful meaning script → (old : Core)
         (call item : ℕ) (ends : Bool) (play : Play) (bound : List Range) (turns : List Turn) (new : Core)
         → old.future ≡ Item call item ends play bound ∷ turns → is_due script old.open_chunk.turns old.future ≡ false
@@ -94,6 +101,29 @@ pub fn steps_keep_the_invariant()
     ensures others { (meaning : Meaning) (reading : Reading) (script : Script) (old : Core) (e : Event) (new : Core)
         → is_of_app e ≡ false → Step meaning reading script old e new
         → Kept meaning reading script old → Kept meaning reading script new }
+{}
+
+/// The law of runs, of a lawful script whose calls ask for no count of a query. The invariant holds in every state that steps
+/// reach from the start, by any choices, in each reading and in any order, and at the end of each run of the core that is
+/// stepped, by any schedule. So there each answer is what the calls before it give one after another, and each call that was
+/// answered as pending has a use that is not finished.
+pub fn runs_keep_the_invariant()
+    ensures steps { (meaning : Meaning) (reading : Reading) (script : Script) → IsLawful meaning script → AsksNoCount script
+        → (events : List Event) (core : Core) → Chain meaning reading script (start script) events core → Kept meaning reading script core }
+    ensures runs { (meaning : Meaning) (script : Script) → IsLawful meaning script → AsksNoCount script
+        → (schedule : List ℕ) (core : Core) → IsRun meaning script schedule core → Kept meaning Any_choices script core }
+    ensures replies { (meaning : Meaning) (script : Script) → IsLawful meaning script → AsksNoCount script
+        → (schedule : List ℕ) (core : Core) → IsRun meaning script schedule core → AllByRecursion (IsRight meaning script) core.replies }
+{}
+
+/// Laws of the blocks that buffers take, as they are created or discarded: such a block is no live buffer's, so that a discard
+/// takes another than its buffer had, and no command that is not finished touches it.
+pub fn taken_blocks_are_idle()
+    ensures strange { (meaning : Meaning) (reading : Reading) (script : Script) → IsLawful meaning script → (old : Core) (buffer block : ℕ) (mid : Core)
+        → Kept meaning reading script old → HasBlock reading script buffer block old mid
+        → (r b : ℕ) → old.blocks r ≡ Some b → block ≡ b → ⊥ }
+    ensures idle { (meaning : Meaning) (reading : Reading) (script : Script) → IsLawful meaning script → (old : Core) (buffer block : ℕ) (mid : Core)
+        → Kept meaning reading script old → HasBlock reading script buffer block old mid → may_touch old block ≡ false }
 {}
 
 /// What the invariant says of each state. The chunks that were handed over, and what is cut of the rest, are the script's, and

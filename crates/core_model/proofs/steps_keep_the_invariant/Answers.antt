@@ -1,6 +1,7 @@
 use Rattle.core_model.proofs.KeptSteps.{start_kept, posts_kept, hand_over_kept, others_kept}
 use Rattle.core_model.proofs.KeptActs.{items_kept}
 use Rattle.core_model.proofs.KeptTurns.{plain_kept, pending_kept, constant_kept, end_kept}
+use Rattle.core_model.proofs.Reading.{asked_bytes_kept}
 use Rattle.core_model.proofs.steps_keep_the_invariant.Goals as goal
 
 pub returns : goal.returns
@@ -11,6 +12,7 @@ returns c = record {
   turns = plain_kept;
   pending = pending_kept;
   constants = constant_kept;
+  bytes = asked_bytes_kept;
   items = items_kept;
   ended = end_kept;
   others = others_kept;

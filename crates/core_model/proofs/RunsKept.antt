@@ -1,0 +1,99 @@
+-- The invariant holds in every state that a run reaches, by any choices; and the blocks that App takes.
+use Rattle.std.proofs.Common.{◌≡◌, ℕ, false, List, [], ◌∷◌, ◌++◌, refl, sym, ap, ◌∙◌, subst, inl, inr, Some}
+use Rattle.vk_types.specs.Effects.{Meaning}
+use Rattle.core_model.specs.Script.{Bytes, Count, Constant, Turn, Refused, Passed, Flushed, Asked, Item, Script}
+use Rattle.core_model.specs.Chunking.{is_due}
+use Rattle.core_model.specs.CoreState.{Owner, Unmade, Home, Returning, Spare, Live, Retired, Paged, Dropped, Core, start}
+use Rattle.core_model.specs.Readings.{Reading, Any_choices}
+use Rattle.core_model.specs.TakingPosts.{with_fence}
+use Rattle.core_model.specs.AppActs.{TakesTurn, Acts}
+use Rattle.core_model.specs.CoreStep.{Event, App, Cs, Pipe, Submit, Accept, Run, Complete, Finish, Come_home, Step, Chain}
+use Rattle.core_model.specs.Playing.{HasBlock}
+use Rattle.core_model.specs.Stands.{may_touch, IsFree}
+use Rattle.core_model.specs.Lawful.{IsLawful, AsksNoCount}
+use Rattle.core_model.specs.Invariant.{IsLive}
+use Rattle.core_model.specs.Kept.{Kept}
+use Rattle.core_model.proofs.Idle.{free_is_idle, made_is_idle}
+use Rattle.core_model.proofs.Giving.{IsVacant, vacant_lives, stocked, vacant}
+use Rattle.core_model.proofs.KeptSteps.{posts_kept, hand_over_kept, others_kept, start_kept}
+use Rattle.core_model.proofs.KeptTurns.{plain_kept, constant_kept, end_kept}
+use Rattle.core_model.proofs.KeptActs.{items_kept}
+use Rattle.core_model.proofs.Reading.{asked_bytes_kept}
+use Rattle.core_model.proofs.Choices.{run_free}
+use Rattle.core_model.specs.Runs.{IsRun}
+
+module _ (meaning : Meaning) (reading : Reading) (script : Script) (lawful : IsLawful meaning script) (uncounted : AsksNoCount script) where
+  turn_kept : (old : Core) (t : Turn) (turns : List Turn) (new : Core) → old.future ≡ t ∷ turns → is_due script old.open_chunk.turns old.future ≡ false → TakesTurn reading script t turns old new
+      → Kept meaning reading script old → Kept meaning reading script new
+  turn_kept old (Refused call) turns new e due n k = plain_kept meaning reading script old (Refused call) turns new refl e due n k
+  turn_kept old (Passed call) turns new e due n k = plain_kept meaning reading script old (Passed call) turns new refl e due n k
+  turn_kept old (Flushed call) turns new e due n k = plain_kept meaning reading script old (Flushed call) turns new refl e due n k
+  turn_kept old (Asked call (Bytes source) used may_pend) turns new e due n k = asked_bytes_kept meaning reading script lawful old call source used may_pend turns new e due n k
+  turn_kept old (Asked call (Count query) used may_pend) turns new e due n k =
+      absurd (uncounted old.past call query used may_pend turns (sym (ap (λ l. old.past ++ l) (sym e) ∙ k.good.sound.position)))
+  turn_kept old (Asked call (Constant value) used may_pend) turns new e due n k = constant_kept meaning reading script old call value used may_pend turns new e due n k
+  turn_kept old (Item call item ends play bound) turns new e due n k = items_kept meaning reading script lawful old call item ends play bound turns new e due n k
+
+  acts_kept : (old new : Core) → Acts reading script old new → Kept meaning reading script old → Kept meaning reading script new
+  acts_kept old new a k =
+      elim a.1 [
+        | inl h ↦ subst (Kept meaning reading script) (sym h.2) (hand_over_kept meaning reading script old h.0 h.1 k)
+        | inr b ↦ elim b [
+          | inl h ↦ turn_kept old h.1 h.2 new h.3 h.0 h.4 k
+          | inr h ↦ subst (Kept meaning reading script) (sym h.3) (end_kept meaning reading script old k)
+        ]
+      ]
+
+  -- each step keeps it
+  pub step_kept : (old : Core) (e : Event) (new : Core) → Step meaning reading script old e new → Kept meaning reading script old → Kept meaning reading script new
+  step_kept old (App n) new p k =
+      let mid = posts_kept meaning reading script n old p.2 p.3 k in
+      elim p.4 [
+        | inl a ↦ acts_kept (with_fence n p.2) new a mid
+        | inr h ↦ subst (Kept meaning reading script) (sym h.2) mid
+      ]
+  step_kept old Cs new p k = others_kept meaning reading script old Cs new refl p k
+  step_kept old (Pipe j) new p k = others_kept meaning reading script old (Pipe j) new refl p k
+  step_kept old Submit new p k = others_kept meaning reading script old Submit new refl p k
+  step_kept old Accept new p k = others_kept meaning reading script old Accept new refl p k
+  step_kept old (Run j) new p k = others_kept meaning reading script old (Run j) new refl p k
+  step_kept old Complete new p k = others_kept meaning reading script old Complete new refl p k
+  step_kept old Finish new p k = others_kept meaning reading script old Finish new refl p k
+  step_kept old (Come_home block place) new p k = others_kept meaning reading script old (Come_home block place) new refl p k
+
+  pub chain_kept : (events : List Event) (old new : Core) → Chain meaning reading script old events new → Kept meaning reading script old → Kept meaning reading script new
+  chain_kept [] old new h k = subst (Kept meaning reading script) (sym h) k
+  chain_kept (e ∷ es) old new h k = chain_kept es h.0 new h.2 (step_kept old e h.0 h.1 k)
+
+-- each state that a chain of steps reaches
+pub reached_kept : (meaning : Meaning) (reading : Reading) (script : Script) → IsLawful meaning script → AsksNoCount script → (events : List Event) (new : Core)
+    → Chain meaning reading script (start script) events new → Kept meaning reading script new
+reached_kept meaning reading script lawful uncounted events new h = chain_kept meaning reading script lawful uncounted events (start script) new h (start_kept meaning reading script)
+
+-- and the end of a run of the core that is stepped
+pub run_kept : (meaning : Meaning) (script : Script) → IsLawful meaning script → AsksNoCount script → (schedule : List ℕ) (new : Core) → IsRun meaning script schedule new → Kept meaning Any_choices script new
+run_kept meaning script lawful uncounted schedule new h = let f = run_free meaning script schedule new h in reached_kept meaning Any_choices script lawful uncounted f.0 new f.1
+
+-- Blocks that are taken -------------------------------------------------------------------------------------------------------------
+
+-- a block that a buffer takes is no live buffer's
+pub taken_strange : (meaning : Meaning) (reading : Reading) (script : Script) → IsLawful meaning script → (old : Core) (buffer block : ℕ) (mid : Core) → Kept meaning reading script old
+    → HasBlock reading script buffer block old mid → (r b : ℕ) → old.blocks r ≡ Some b → block ≡ b → ⊥
+taken_strange meaning reading script lawful old buffer block mid k h r b is same =
+    vacant_lives r (old.owner block) (vacant reading script buffer block old mid h lawful.classes (stocked old k.beside.places)) (subst (λ b. IsLive r (old.owner b)) (sym same) (k.good.live r b is))
+
+-- and no command that is not finished touches it
+pub taken_idle : (meaning : Meaning) (reading : Reading) (script : Script) → IsLawful meaning script → (old : Core) (buffer block : ℕ) (mid : Core) → Kept meaning reading script old
+    → HasBlock reading script buffer block old mid → may_touch old block ≡ false
+taken_idle meaning reading script lawful old buffer block mid k h =
+    by (old.owner block) refl (vacant reading script buffer block old mid h lawful.classes (stocked old k.beside.places))
+  where
+    by : (o : Owner) → old.owner block ≡ o → IsVacant o → may_touch old block ≡ false
+    by Unmade e v = made_is_idle meaning reading script old k.good block e
+    by (Home j) e v = free_is_idle meaning reading script old k.good block (subst IsFree (sym e) tt)
+    by (Returning j) e v = absurd v
+    by Spare e v = absurd v
+    by (Live buffer since bound) e v = absurd v
+    by (Retired j since bound) e v = absurd v
+    by (Paged j since bound) e v = absurd v
+    by Dropped e v = absurd v
