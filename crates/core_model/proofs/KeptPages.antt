@@ -20,7 +20,7 @@ use Rattle.core_model.specs.Invariant.{IsLive}
 use Rattle.core_model.specs.Kept.{IsPageOf, IsFreeFrom, IsTakenBy, IsOfBuffer, IsMade, bound_at, AreApart, IsNewest, PlacesRight, Names, Beside}
 use Rattle.core_model.proofs.Binding.{or_left, or_right}
 use Rattle.core_model.proofs.Segments.{handed_length}
-use Rattle.core_model.proofs.Staging.{IsReady, live_of_buffer}
+use Rattle.core_model.proofs.StagedPages.{IsReady, live_of_buffer}
 use Rattle.core_model.proofs.Keeping.{places_by, paged_by, blocks_by, bind_keeps, bind_page, bind_free, bind_bound}
 use Rattle.core_model.proofs.KeptItems.{stays_bound, bound_back, more_names}
 use Rattle.core_model.proofs.KeptBlocks.{given_other, given_here, kept_other, kept_both, kept_pages}

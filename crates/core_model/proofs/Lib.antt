@@ -29,6 +29,7 @@ pub mod Overwriting
 pub mod Giving
 pub mod Discarding
 pub mod Creating
+pub mod StagedPages
 pub mod Staging
 pub mod Steps
 pub mod Choices
@@ -50,6 +51,7 @@ pub mod LastUses
 pub mod KeptTurns
 pub mod Reading
 pub mod RunsKept
+pub mod KeptTaking
 pub mod KeptActs
 pub mod Settling
 pub mod WorkedRuns

@@ -37,6 +37,7 @@ ghost use Rattle.core_model.specs.WorkedLogs.{no_shaders, update_copy_map, Plays
 /// the checks of the calls make sure of, so what is asked of a script can be met.
 pub fn worked_logs()
     ensures lawful { IsLawful no_shaders update_copy_map }
+    ensures uncounted { AsksNoCount update_copy_map }
     ensures update_copy_map { PlaysUpdateCopyMap }
     ensures five_buffers { PlaysFiveBuffers }
 {}
