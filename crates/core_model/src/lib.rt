@@ -107,7 +107,8 @@ pub fn steps_keep_the_invariant()
 /// The law of runs, of a lawful script whose calls ask for no count of a query. The invariant holds in every state that steps
 /// reach from the start, by any choices, in each reading and in any order, and at the end of each run of the core that is
 /// stepped, by any schedule. So there each answer is what the calls before it give one after another, and each call that was
-/// answered as pending has a use that is not finished.
+/// answered as pending has a use that is not finished; no command that is not finished touches a block that may be handed out;
+/// the listing is covered, and all orders that it allows agree; and what the device ran keeps what is ordered.
 pub fn runs_keep_the_invariant()
     ensures steps { (meaning : Meaning) (reading : Reading) (script : Script) → IsLawful meaning script → AsksNoCount script
         → (events : List Event) (core : Core) → Chain meaning reading script (start script) events core → Kept meaning reading script core }
@@ -115,6 +116,19 @@ pub fn runs_keep_the_invariant()
         → (schedule : List ℕ) (core : Core) → IsRun meaning script schedule core → Kept meaning Any_choices script core }
     ensures replies { (meaning : Meaning) (script : Script) → IsLawful meaning script → AsksNoCount script
         → (schedule : List ℕ) (core : Core) → IsRun meaning script schedule core → AllByRecursion (IsRight meaning script) core.replies }
+    ensures idle { (meaning : Meaning) (reading : Reading) (script : Script) → IsLawful meaning script → AsksNoCount script
+        → (events : List Event) (core : Core) → Chain meaning reading script (start script) events core → FreeIsIdle core }
+    ensures covered { (meaning : Meaning) (reading : Reading) (script : Script) → IsLawful meaning script → AsksNoCount script
+        → (events : List Event) (core : Core) → Chain meaning reading script (start script) events core
+        → Covered (core.listing ++ core.open_chunk.ops) }
+    ensures orders { (meaning : Meaning) (reading : Reading) (script : Script) → IsLawful meaning script → AsksNoCount script
+        → (events : List Event) (core : Core) → Chain meaning reading script (start script) events core
+        → (order : List ℕ) → IsAllowed (core.listing ++ core.open_chunk.ops) order
+        → outcome meaning core.contents (core.listing ++ core.open_chunk.ops) order
+        ≡ outcome meaning core.contents (core.listing ++ core.open_chunk.ops) (acts (core.listing ++ core.open_chunk.ops)) }
+    ensures ran { (meaning : Meaning) (reading : Reading) (script : Script) → IsLawful meaning script → AsksNoCount script
+        → (events : List Event) (core : Core) → Chain meaning reading script (start script) events core
+        → EntriesKeep (core.ran ++ rests core.accepted) }
 {}
 
 /// Laws of the blocks that buffers take, as they are created or discarded: such a block is no live buffer's, so that a discard
