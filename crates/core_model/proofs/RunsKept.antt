@@ -1,14 +1,17 @@
 -- The invariant holds in every state that a run reaches, by any choices; and the blocks that App takes.
-use Rattle.std.proofs.Common.{◌≡◌, ℕ, false, List, [], ◌∷◌, ◌++◌, refl, sym, ap, ◌∙◌, subst, inl, inr, Some}
+use Rattle.std.proofs.Common.{◌≡◌, ℕ, false, List, [], ◌∷◌, ◌++◌, refl, sym, ap, ◌∙◌, subst, inl, inr, Some, arith}
+use Rattle.std.specs.List.{AllByRecursion}
 use Rattle.vk_types.specs.Effects.{Meaning}
+use Rattle.vk_types.proofs.Lists.{all_back}
 use Rattle.core_model.specs.Script.{Bytes, Count, Constant, Turn, Refused, Passed, Flushed, Asked, Item, Script}
 use Rattle.core_model.specs.Chunking.{is_due}
-use Rattle.core_model.specs.CoreState.{Owner, Unmade, Home, Returning, Spare, Live, Retired, Paged, Dropped, Core, start}
+use Rattle.core_model.specs.CoreState.{Owner, Unmade, Home, Returning, Spare, Live, Retired, Paged, Dropped, Page, Pool, Core, start}
 use Rattle.core_model.specs.Readings.{Reading, Any_choices}
 use Rattle.core_model.specs.TakingPosts.{with_fence}
 use Rattle.core_model.specs.AppActs.{TakesTurn, Acts}
 use Rattle.core_model.specs.CoreStep.{Event, App, Cs, Pipe, Submit, Accept, Run, Complete, Finish, Come_home, Step, Chain}
 use Rattle.core_model.specs.Playing.{HasBlock}
+use Rattle.core_model.specs.Placing.{PageChoice, Staged, Stages, On_newest, On_spare, On_new}
 use Rattle.core_model.specs.Stands.{may_touch, IsFree}
 use Rattle.core_model.specs.Lawful.{IsLawful, AsksNoCount}
 use Rattle.core_model.specs.Invariant.{IsLive}
@@ -97,3 +100,17 @@ taken_idle meaning reading script lawful old buffer block mid k h =
     by (Retired j since bound) e v = absurd v
     by (Paged j since bound) e v = absurd v
     by Dropped e v = absurd v
+
+-- nor a page that the open chunk takes: it came back, or is new
+taken_page : (meaning : Meaning) (reading : Reading) (script : Script) (old : Core) → Kept meaning reading script old → (choice : PageChoice) (len : ℕ) (s : Staged) (before after : Pool) → Stages choice len s before after
+    → AllByRecursion (λ q. old.owner q.block ≡ Spare) before.spare → old.owner before.next ≡ Unmade → (p : Page) → s.added ≡ p ∷ [] → may_touch old s.block ≡ false
+taken_page meaning reading script old k choice len s before after (On_newest _ _ n is fits) spare fresh p e = absurd (cc e)
+taken_page meaning reading script old k choice len s before after (On_spare _ _ front q back is long none) spare fresh p e =
+    let was : AllByRecursion (λ q. old.owner q.block ≡ Spare) (q ∷ back) = all_back (λ q. old.owner q.block ≡ Spare) front (q ∷ back) (subst (AllByRecursion (λ q. old.owner q.block ≡ Spare)) is spare) in
+    free_is_idle meaning reading script old k.good q.block (subst IsFree (sym was.0) tt)
+taken_page meaning reading script old k choice len s before after (On_new _ _ none) spare fresh p e = made_is_idle meaning reading script old k.good before.next fresh
+
+pub page_idle : (meaning : Meaning) (reading : Reading) (script : Script) (old : Core) (choice : PageChoice) (len : ℕ) (s : Staged) (pool : Pool) → Kept meaning reading script old
+    → Stages choice len s old.pool pool → (p : Page) → s.added ≡ p ∷ [] → may_touch old s.block ≡ false
+page_idle meaning reading script old choice len s pool k h p e =
+    taken_page meaning reading script old k choice len s old.pool pool h k.beside.places.spare (k.beside.places.fresh old.pool.next (omega arith)) p e

@@ -16,7 +16,7 @@ ghost use Rattle.vk_types.specs.Memory.{zeros};
 ghost use Rattle.vk_types.specs.RunListing.{IsRunListing, SameOrder};
 ghost use Rattle.core_model.specs.Script.{Play, Ask, Bytes, Constant, Turn, Asked, Item, is_plain, Script};
 ghost use Rattle.core_model.specs.Chunking.{is_due, cut, chunks};
-ghost use Rattle.core_model.specs.CoreState.{Core, start, flat, rests, on_device, listed, done, Still_said, End_said};
+ghost use Rattle.core_model.specs.CoreState.{Page, Pool, Core, start, flat, rests, on_device, listed, done, Still_said, End_said};
 ghost use Rattle.core_model.specs.Adding.{with_turn, with_reply};
 ghost use Rattle.core_model.specs.Readings.{Reading, Any_choices, First_choices, may_hand_over};
 ghost use Rattle.core_model.specs.AppActs.{TakesTurn, is_finished, used_or_zero, handed_over};
@@ -26,6 +26,7 @@ ghost use Rattle.core_model.specs.Stands.{may_touch, FreeIsIdle};
 ghost use Rattle.core_model.specs.TakingPosts.{TakesPosts, with_fence};
 ghost use Rattle.core_model.specs.Runs.{IsRun};
 ghost use Rattle.core_model.specs.Playing.{HasBlock};
+ghost use Rattle.core_model.specs.Placing.{PageChoice, Staged, Stages};
 ghost use Rattle.core_model.specs.RunReads.{ReadsStaging, listed_entries};
 ghost use Rattle.core_model.specs.Listed.{plain_entries};
 ghost use Rattle.core_model.specs.Lawful.{IsLawful, AsksNoCount};
@@ -132,13 +133,17 @@ pub fn runs_keep_the_invariant()
 {}
 
 /// Laws of the blocks that buffers take, as they are created or discarded: such a block is no live buffer's, so that a discard
-/// takes another than its buffer had, and no command that is not finished touches it.
+/// takes another than its buffer had, and no command that is not finished touches it. Nor does one touch a page that a chunk
+/// takes.
 pub fn taken_blocks_are_idle()
     ensures strange { (meaning : Meaning) (reading : Reading) (script : Script) → IsLawful meaning script → (old : Core) (buffer block : ℕ) (mid : Core)
         → Kept meaning reading script old → HasBlock reading script buffer block old mid
         → (r b : ℕ) → old.blocks r ≡ Some b → block ≡ b → ⊥ }
     ensures idle { (meaning : Meaning) (reading : Reading) (script : Script) → IsLawful meaning script → (old : Core) (buffer block : ℕ) (mid : Core)
         → Kept meaning reading script old → HasBlock reading script buffer block old mid → may_touch old block ≡ false }
+    ensures pages { (meaning : Meaning) (reading : Reading) (script : Script) (old : Core) (choice : PageChoice) (len : ℕ) (staged : Staged) (pool : Pool)
+        → Kept meaning reading script old → Stages choice len staged old.pool pool
+        → (page : Page) → staged.added ≡ page ∷ [] → may_touch old staged.block ≡ false }
 {}
 
 /// What the invariant says of each state. The chunks that were handed over, and what is cut of the rest, are the script's, and
