@@ -1,11 +1,12 @@
 -- The invariant holds in every state that a run reaches, by any choices; and the blocks that App takes.
-use Rattle.std.proofs.Common.{◌≡◌, ℕ, false, List, [], ◌∷◌, ◌++◌, refl, sym, ap, ◌∙◌, subst, inl, inr, Some, arith}
+use Rattle.std.proofs.Common.{◌≡◌, ℕ, false, List, [], ◌∷◌, ◌++◌, refl, sym, ap, ◌∙◌, subst, inl, inr, Some, arith, cond, ◌==◌, ◌<◌}
 use Rattle.std.specs.List.{AllByRecursion}
+use Rattle.std.proofs.lemmas.Bool.{cases_Bool, eqb-true}
 use Rattle.vk_types.specs.Effects.{Meaning}
 use Rattle.vk_types.proofs.Lists.{all_back}
-use Rattle.core_model.specs.Script.{Bytes, Count, Constant, Turn, Refused, Passed, Flushed, Asked, Item, Script}
+use Rattle.core_model.specs.Script.{Ask, Bytes, Count, Constant, Turn, Refused, Passed, Flushed, Asked, Item, Script}
 use Rattle.core_model.specs.Chunking.{is_due}
-use Rattle.core_model.specs.CoreState.{Owner, Unmade, Home, Returning, Spare, Live, Retired, Paged, Dropped, Page, Pool, Core, start}
+use Rattle.core_model.specs.CoreState.{Owner, Unmade, Home, Returning, Spare, Live, Retired, Paged, Dropped, Page, Pool, Core, start, Said, Bytes_said, Value_said, Still_said, Refused_said, End_said}
 use Rattle.core_model.specs.Readings.{Reading, Any_choices}
 use Rattle.core_model.specs.TakingPosts.{with_fence}
 use Rattle.core_model.specs.AppActs.{TakesTurn, Acts}
@@ -14,7 +15,7 @@ use Rattle.core_model.specs.Playing.{HasBlock}
 use Rattle.core_model.specs.Placing.{PageChoice, Staged, Stages, On_newest, On_spare, On_new}
 use Rattle.core_model.specs.Stands.{may_touch, IsFree}
 use Rattle.core_model.specs.Lawful.{IsLawful, AsksNoCount}
-use Rattle.core_model.specs.Invariant.{IsLive}
+use Rattle.core_model.specs.Invariant.{IsLive, IsAsked, IsRight}
 use Rattle.core_model.specs.Kept.{Kept}
 use Rattle.core_model.proofs.Idle.{free_is_idle, made_is_idle}
 use Rattle.core_model.proofs.Giving.{IsVacant, vacant_lives, stocked, vacant}
@@ -23,7 +24,7 @@ use Rattle.core_model.proofs.KeptTurns.{plain_kept, constant_kept, end_kept}
 use Rattle.core_model.proofs.KeptActs.{items_kept}
 use Rattle.core_model.proofs.Reading.{asked_bytes_kept}
 use Rattle.core_model.proofs.Choices.{run_free}
-use Rattle.core_model.specs.Runs.{IsRun}
+use Rattle.core_model.specs.Runs.{IsRun, pending_in}
 
 module _ (meaning : Meaning) (reading : Reading) (script : Script) (lawful : IsLawful meaning script) (uncounted : AsksNoCount script) where
   turn_kept : (old : Core) (t : Turn) (turns : List Turn) (new : Core) → old.future ≡ t ∷ turns → is_due script old.open_chunk.turns old.future ≡ false → TakesTurn reading script t turns old new
@@ -114,3 +115,21 @@ pub page_idle : (meaning : Meaning) (reading : Reading) (script : Script) (old :
     → Stages choice len s old.pool pool → (p : Page) → s.added ≡ p ∷ [] → may_touch old s.block ≡ false
 page_idle meaning reading script old choice len s pool k h p e =
     taken_page meaning reading script old k choice len s old.pool pool h k.beside.places.spare (k.beside.places.fresh old.pool.next (omega arith)) p e
+
+-- a call that is pending in a run has a use that is not finished
+pub pending_right : (meaning : Meaning) (script : Script) (rs : List Said) → AllByRecursion (IsRight meaning script) rs → (n d : ℕ) → pending_in rs n ≡ Some d
+    → (ask : Ask) × (used : ℕ) × IsAsked script n ask (Some used) × (d < used)
+pending_right meaning script [] h n d e = absurd (cc e)
+pending_right meaning script (Bytes_said call bytes ∷ rs) h n d e = pending_right meaning script rs h.1 n d e
+pending_right meaning script (Value_said call value ∷ rs) h n d e = pending_right meaning script rs h.1 n d e
+pending_right meaning script (Still_said call used finished ∷ rs) h n d e =
+    elim (cases_Bool (call == n)) [
+      | inl t ↦
+          let is : Some finished ≡ Some d = sym (ap (λ c. cond c (Some finished) (pending_in rs n)) t) ∙ e in
+          let same : finished ≡ d = cc is in
+          let right = h.0 in
+          (right.0, used, subst (λ n. IsAsked script n right.0 (Some used)) (eqb-true call n t) right.1, (let l = right.2 in omega (arith, l, same)))
+      | inr f ↦ pending_right meaning script rs h.1 n d (sym (ap (λ c. cond c (Some finished) (pending_in rs n)) f) ∙ e)
+    ]
+pending_right meaning script (Refused_said call ∷ rs) h n d e = pending_right meaning script rs h.1 n d e
+pending_right meaning script (End_said ∷ rs) h n d e = pending_right meaning script rs h.1 n d e

@@ -2,7 +2,7 @@
 //! in every run. The functions here are empty: each is named for a law, which its clauses state.
 #![tactic(auto)]
 
-ghost use Rattle.std.specs.Prelude.{◌≡◌, ℕ, Bool, true, false, Option, Some, List, [], ◌∷◌, ◌++◌};
+ghost use Rattle.std.specs.Prelude.{◌≡◌, ℕ, ◌<◌, Bool, true, false, Option, Some, List, [], ◌∷◌, ◌++◌};
 ghost use Rattle.std.specs.List.{AllByRecursion};
 ghost use Rattle.dx_types.specs.declared.range.Range.{Range};
 ghost use Rattle.vk_types.specs.Covered.{Covered};
@@ -24,13 +24,13 @@ ghost use Rattle.core_model.specs.CoreStep.{Event, is_of_app, Step, CoreStep, Ch
 ghost use Rattle.core_model.specs.Free.{FreeSteps, FreeRun};
 ghost use Rattle.core_model.specs.Stands.{may_touch, FreeIsIdle};
 ghost use Rattle.core_model.specs.TakingPosts.{TakesPosts, with_fence};
-ghost use Rattle.core_model.specs.Runs.{IsRun};
+ghost use Rattle.core_model.specs.Runs.{IsRun, pending};
 ghost use Rattle.core_model.specs.Playing.{HasBlock};
 ghost use Rattle.core_model.specs.Placing.{PageChoice, Staged, Stages};
 ghost use Rattle.core_model.specs.RunReads.{ReadsStaging, listed_entries};
 ghost use Rattle.core_model.specs.Listed.{plain_entries};
 ghost use Rattle.core_model.specs.Lawful.{IsLawful, AsksNoCount};
-ghost use Rattle.core_model.specs.Invariant.{turns_of, handed, commands_of, IsSized, IsBounded, IsRight, Good};
+ghost use Rattle.core_model.specs.Invariant.{turns_of, handed, commands_of, IsSized, IsBounded, IsAsked, IsRight, Good};
 ghost use Rattle.core_model.specs.Kept.{Kept};
 ghost use Rattle.core_model.specs.WorkedLogs.{no_shaders, update_copy_map, PlaysUpdateCopyMap, PlaysFiveBuffers};
 
@@ -117,6 +117,9 @@ pub fn runs_keep_the_invariant()
         → (schedule : List ℕ) (core : Core) → IsRun meaning script schedule core → Kept meaning Any_choices script core }
     ensures replies { (meaning : Meaning) (script : Script) → IsLawful meaning script → AsksNoCount script
         → (schedule : List ℕ) (core : Core) → IsRun meaning script schedule core → AllByRecursion (IsRight meaning script) core.replies }
+    ensures pending { (meaning : Meaning) (script : Script) → IsLawful meaning script → AsksNoCount script
+        → (schedule : List ℕ) (core : Core) → IsRun meaning script schedule core → (n finished : ℕ) → pending core n ≡ Some finished
+        → (ask : Ask) × (used : ℕ) × IsAsked script n ask (Some used) × (finished < used) }
     ensures idle { (meaning : Meaning) (reading : Reading) (script : Script) → IsLawful meaning script → AsksNoCount script
         → (events : List Event) (core : Core) → Chain meaning reading script (start script) events core → FreeIsIdle core }
     ensures covered { (meaning : Meaning) (reading : Reading) (script : Script) → IsLawful meaning script → AsksNoCount script
