@@ -15,7 +15,8 @@ use Rattle.vk_types.specs.Lists.{numbers_from}
 use Rattle.vk_types.specs.Memory.{Memory, covers, put, byte_of, word_of, byte_in, byte_in_words, number_at, or_zero}
 use Rattle.vk_types.specs.Hazards.{groups_touches, slot_touch, work_touches, cond_touches, is_touched}
 use Rattle.vk_types.specs.Effects.{Meaning, words_in, is_constant, is_srv, is_uav, slot_words, slots_words, group_counts, put_slot, put_slots, work_effect, work_count, is_skipped}
-use Rattle.vk_types.proofs.Local.{covered, touched_front, touched_back}
+use Rattle.vk_types.proofs.Local.{covered}
+use Rattle.core_model.proofs.Touched.{touched_front, touched_back}
 use Rattle.core_model.specs.Renaming.{BlockMap, block_of, range_on, slot_on, groups_on, work_on, cond_on}
 use Rattle.core_model.proofs.Binding.{or_left, or_right}
 

@@ -31,6 +31,7 @@ pub mod Discarding
 pub mod Creating
 pub mod StagedPages
 pub mod Staging
+pub mod Touched
 pub mod Steps
 pub mod Choices
 pub mod FromCommand

@@ -10,7 +10,7 @@ use Rattle.vk_types.specs.Memory.{Memory}
 use Rattle.vk_types.specs.Hazards.{touches, work_touches, cond_touches, is_touched}
 use Rattle.vk_types.specs.Effects.{Meaning, effect, work_effect, work_count, is_skipped, invocations}
 use Rattle.vk_types.specs.BarrierCauses.{least_conflict, caused}
-use Rattle.vk_types.proofs.Local.{touched_front, touched_back}
+use Rattle.core_model.proofs.Touched.{touched_front, touched_back}
 use Rattle.core_model.specs.Script.{Command, Turn, Item, Script, InOrder, at_start, turn_in_order, in_order}
 use Rattle.core_model.specs.Chunking.{is_due}
 use Rattle.core_model.specs.Renaming.{range_on, work_on, cond_on}
