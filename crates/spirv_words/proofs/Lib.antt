@@ -6,3 +6,4 @@ pub mod Cutting
 pub mod Walking
 pub mod Edges
 pub mod Chains
+mod MeaningExamples

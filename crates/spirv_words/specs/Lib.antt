@@ -19,3 +19,4 @@ pub mod Edges
 pub mod Known
 pub mod Rules
 pub mod Reading
+pub mod Meaning
