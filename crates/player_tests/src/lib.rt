@@ -8,4 +8,6 @@ mod refusals;
 #[cfg(test)]
 mod replays;
 #[cfg(test)]
+mod shaders;
+#[cfg(test)]
 mod texts;

@@ -47,7 +47,7 @@ fn log_of(alloc: Global, lines: &str) -> Result<Ran, AllocError> {
 }
 
 // A log of these lines is played in order with these lines of output.
-fn says(
+pub(crate) fn says(
     rt: &impl Abort,
     alloc: Global,
     shows: &str,
