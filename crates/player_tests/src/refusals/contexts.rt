@@ -2,7 +2,12 @@
 
 use super::Row;
 
-pub(super) static ROWS: [Row; 5] = [
+pub(super) static ROWS: [Row; 6] = [
+    Row {
+        shows: "three bad calls, each with the first check that it fails",
+        log: "0 map-read 7 0 0 4\n1 map-read 7 0 0 4\n0 dispatch 1 1 1\n",
+        says: "1 refused UnknownId\n2 refused WrongContext\n3 refused BadShader\nend 3\n",
+    },
     Row {
         shows: "creations and destroys off the immediate context, before all other checks",
         log: "1 buffer 0 0 9 9 9 9 -\n16 view 0 0 9 9 9 9 9\n1 query 0 9\n2 destroy 9 0\n17 buffer 1 16 0 0 0 0 -\n65535 destroy 1 1\n",
