@@ -26,5 +26,7 @@ mod Fetching
 mod Fitting
 mod Testing
 mod Placing
+mod Reaching
+mod Loading
 mod Doing
 mod Worked

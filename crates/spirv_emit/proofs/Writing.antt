@@ -47,7 +47,7 @@ one_put ids false x c v f e = refl
 
 -- a property that assignments keep
 module _ (P : Frame → Type 0) (x : ℕ → ℕ) (keeps : (c v : ℕ) (f : Frame) → c < 4 → P f → P (with_variable (x c) v f)) where
-  put_keeps : (b : Bool) (c v : ℕ) (f : Frame) → c < 4 → P f → P (put_if b (x c) v f)
+  pub put_keeps : (b : Bool) (c v : ℕ) (f : Frame) → c < 4 → P f → P (put_if b (x c) v f)
   put_keeps true c v f lt h = keeps c v f lt h
   put_keeps false c v f lt h = h
 
