@@ -28,5 +28,6 @@ mod Testing
 mod Placing
 mod Reaching
 mod Loading
+mod Loads
 mod Doing
 mod Worked

@@ -86,7 +86,7 @@ module _ (ids : Ids) (s : Spot) (c : ℕ) (f : Frame) (lc : c < 4) (few : s.para
       by_element false h = refl
 
   -- a typed view has elements of at least one word
-  abbrev HasWords : Form → Type 0
+  abbrev pub HasWords : Form → Type 0
   HasWords Typed = 0 < p
   HasWords form = Unit {0}
 

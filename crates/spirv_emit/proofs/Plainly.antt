@@ -197,7 +197,7 @@ module _ (ds : List Declared) (temps : ℕ) (ids : Ids) (three_ids : ThreeIds id
   put_results (Some t) k w f = put_masked t.mask (result k) w f
 
   -- results keep what is near
-  near_kept : (f g : Frame) (k c v : ℕ) → k < 2 → c < 4 → Near ds temps ids three_ids f g → Near ds temps ids three_ids f (with_variable (result k c) v g)
+  pub near_kept : (f g : Frame) (k c v : ℕ) → k < 2 → c < 4 → Near ds temps ids three_ids f g → Near ds temps ids three_ids f (with_variable (result k c) v g)
   near_kept f g k c v lk lc h = record {
     slots = h.slots;
     variables = λ x clear. ap (λ b. if b then v else g.variables x) (ne_eqb x (result k c) (⊎_elim (λ (z : x < 17). λ (e : x ≡ result k c). absurd (omega arith)) (λ (z : 25 ≤ x). λ (e : x ≡ result k c). absurd (omega arith)) clear)) ∙ h.variables x clear;
@@ -231,7 +231,7 @@ module _ (ds : List Declared) (temps : ℕ) (ids : Ids) (three_ids : ThreeIds id
       (λ c e lc z. computes_value i f e s k c h lc sh fits got z)
 
   -- what was computed is read where the mask has the component
-  abbrev Reads : Option Target → (destination : ℕ) → (ℕ → ℕ) → Frame → Type 0
+  abbrev pub Reads : Option Target → (destination : ℕ) → (ℕ → ℕ) → Frame → Type 0
   Reads None d w f = Unit {0}
   Reads (Some t) d w f = (c : ℕ) → c < 4 → bit c t.mask ≡ true → f.variables (result d c) ≡ w c
 
@@ -252,18 +252,18 @@ module _ (ds : List Declared) (temps : ℕ) (ids : Ids) (three_ids : ThreeIds id
   first_read None u v w f h = tt
   first_read (Some t) u v w f h = λ c lc e. other_kept u w f c (v c) lc (h c lc e)
 
-  put_taken : Option Target → (destination : ℕ) → (read : Frame) → Frame → Frame
+  pub put_taken : Option Target → (destination : ℕ) → (read : Frame) → Frame → Frame
   put_taken None d r g = g
   put_taken (Some t) d r g = put_masked t.mask (temporary t.index) (λ c. r.variables (result d c)) g
 
   -- the variables of results are as they were
-  abbrev Results : (read g : Frame) → Type 0
+  abbrev pub Results : (read g : Frame) → Type 0
   Results r g = (x : ℕ) → 17 ≤ x → x < 25 → g.variables x ≡ r.variables x
 
   temporary_keeps : (r g : Frame) (i c v : ℕ) → Results r g → Results r (with_variable (temporary i c) v g)
   temporary_keeps r g i c v h = λ x lo hi. ap (λ b. if b then v else g.variables x) (ne_eqb x (temporary i c) (λ (e : x ≡ temporary i c). absurd (omega arith))) ∙ h x lo hi
 
-  taken_done : (t : Option Target) (d : ℕ) (r g : Frame) → d < 2 → Results r g → pieces_done ids (taken t (λ c. Variable (result d c))) g ≡ Some (put_taken t d r g)
+  pub taken_done : (t : Option Target) (d : ℕ) (r g : Frame) → d < 2 → Results r g → pieces_done ids (taken t (λ c. Variable (result d c))) g ≡ Some (put_taken t d r g)
   unfolding put_taken
   taken_done None d r g ld h = refl
   taken_done (Some t) d r g ld h =
@@ -275,7 +275,7 @@ module _ (ds : List Declared) (temps : ℕ) (ids : Ids) (three_ids : ThreeIds id
   taken_keeps None d r g h = h
   taken_keeps (Some t) d r g h = masked_keeps (Results r) (temporary t.index) (λ c v e lc z. temporary_keeps r e t.index c v z) t.mask (λ c. r.variables (result d c)) g h
 
-  taken_shows : (t : Option Target) (d : ℕ) (r g : Frame) (s : State) (w : ℕ → ℕ) → TargetHas t → Reads t d w r → Shows temps g s → Shows temps (put_taken t d r g) (record s { temps = with_target t w s.temps })
+  pub taken_shows : (t : Option Target) (d : ℕ) (r g : Frame) (s : State) (w : ℕ → ℕ) → TargetHas t → Reads t d w r → Shows temps g s → Shows temps (put_taken t d r g) (record s { temps = with_target t w s.temps })
   unfolding put_taken
   taken_shows None d r g s w has reads h = h
   taken_shows (Some t) d r g s w has reads h =

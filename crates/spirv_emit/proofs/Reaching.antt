@@ -42,7 +42,6 @@ reach_by ids b i true place a f at less =
     ap (λ q. acted_at ids b q a f) (at refl) ∙ ap (λ t. if t then Some (acted ids b i a f) else None) (lt-ltb i (length (words_at f.slots b)) (less refl))
 reach_by ids b i false place a f at less = refl
 
-
 both_hold : (t u : Bool) → u ≡ true → (t && u) ≡ t
 both_hold true u e = e
 both_hold false u e = refl
