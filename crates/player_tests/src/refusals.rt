@@ -7,6 +7,7 @@ mod destroying;
 mod maps;
 mod queries;
 mod setting;
+mod shaders;
 mod views;
 
 use dx_io::{MemSink, MemSource};
@@ -110,6 +111,14 @@ fn refused_creations(rt: HostRuntime) -> Result<(), Fail> {
 fn refused_commands(rt: HostRuntime) -> Result<(), Fail> {
     let tables = [&setting::ROWS[..], &commands::ROWS[..], &maps::ROWS[..]];
     play(&rt, rt.alloc(), &tables, 10)
+}
+
+#[test]
+fn refused_with_shaders(rt: HostRuntime) -> Result<(), Fail> {
+    for row in &shaders::ROWS {
+        says(&rt, rt.alloc(), row.shows, row.log, row.says)?;
+    }
+    Ok(())
 }
 
 #[test]
