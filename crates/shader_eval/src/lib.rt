@@ -4,7 +4,7 @@
 
 mod access;
 mod action;
-mod arithmetic;
+pub mod arithmetic;
 mod dispatch;
 mod frame;
 mod invocation;

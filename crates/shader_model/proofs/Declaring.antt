@@ -1,18 +1,19 @@
 -- What items declare: an instruction declares nothing, and all declarations stand before the first instruction.
-use Rattle.std.proofs.Common.{◌≡◌, ◌==◌, ◌≤◌, ℕ, Bool, true, false, not, ◌&&◌, ◌||◌, nat_lt, List, [], ◌∷◌, ◌++◌, reverse, drop, Option, Some, None, is_some, if◌then◌else◌, unwrap_or, slice_index, refl, ap, sym, subst, ◌∙◌, append_assoc, arith}
+use Rattle.std.proofs.Common.{◌≡◌, ◌==◌, ◌+◌, ◌<◌, ◌≤◌, ℕ, Bool, true, false, not, ◌&&◌, ◌||◌, nat_lt, nat_le, List, [], ◌∷◌, ◌++◌, reverse, drop, Option, Some, None, is_some, if◌then◌else◌, unwrap_or, slice_index, refl, ap, sym, subst, ◌∙◌, append_assoc, arith}
+use Rattle.std.proofs.lemmas.Bool.{eqb-true}
 use Rattle.std.proofs.lemmas.Bool.Decides.{nat_tests}
 use Rattle.std.proofs.lemmas.List.{reverse-append, append-nil}
-use Rattle.std.specs.List.{cons_option}
+use Rattle.std.specs.List.{cons_option, AllByRecursion}
 use Rattle.dx_types.specs.declared.shape.Form.TheVariants.{Raw}
 use Rattle.shader_model.specs.declared.tree.Declared.{Declared}
 use Rattle.shader_model.specs.declared.opcode.Row.{Row}
 use Rattle.shader_model.specs.declared.statement.Statement.{Statement}
 use Rattle.shader_model.specs.declared.fault.ShaderKind.TheVariants as kind
 use Rattle.shader_model.specs.Items.{Item, opcode, parts_by, declares, is_declaration}
-use Rattle.shader_model.specs.Fields.{form_of, declared_of, declarations, temps_said, statement_from, statement_of, statements}
-use Rattle.shader_model.specs.Faults.{Rule, rule, first_broken, or_else, Said, said_by, temps_of, has_begun, first_word_rules, declaration_rules, instruction_rules, item_fault, items_fault}
-use Rattle.shader_model.specs.Good.{StatementFits}
-use Rattle.shader_model.proofs.Spelling.{kept_first, kept_later, kept_both, neither, declares_none}
+use Rattle.shader_model.specs.Fields.{form_of, declared_of, declared_among, declarations, temps_said, statement_from, statement_of, statements}
+use Rattle.shader_model.specs.Faults.{Rule, rule, first_broken, or_else, Said, said_by, temps_of, has_begun, first_word_rules, declaration_rules, instruction_rules, is_group, slots_of, takes_parameter, item_fault, items_fault}
+use Rattle.shader_model.specs.Good.{StatementFits, DeclaredFits}
+use Rattle.shader_model.proofs.Spelling.{kept_first, kept_later, kept_both, not_false, neither, declares_none}
 use Rattle.shader_model.proofs.Statements.{statement_fits}
 use Rattle.shader_model.proofs.Fitting.{AllFit}
 
@@ -140,6 +141,12 @@ all_fit earlier (item ∷ later) h =
     let rest : AllFit ds n (statements later) = subst P (declared_more earlier item later) (subst Q (ap (λ z. unwrap_or z 0) (temps_more earlier item later both.0)) (all_fit (item ∷ earlier) later both.1)) in
     cons_fit ds n (statement_of item) (statements later) (one_fits earlier item later (is_declaration item) refl both.0 both.1) rest
 
+-- the rules of a good item that is a declaration
+pub own_rules : (said : Said) (item : Item) → item_fault said item ≡ None → is_declaration item ≡ true → first_broken (declaration_rules said item) ≡ None
+own_rules said item h is =
+    let more : List Rule = if is_declaration item then declaration_rules said item else instruction_rules said item in
+    ap (λ (b : Bool). first_broken (if b then declaration_rules said item else instruction_rules said item)) (sym is) ∙ (kept_both (first_word_rules said item) more h).1
+
 -- the rules of a declaration that says how many temporaries there are
 small : (v : ℕ) → nat_lt 4096 v ≡ false → v ≤ 4096
 small v h = grind (arith, nat_tests)
@@ -149,3 +156,102 @@ pub temps_rule : (n v : ℕ) (a b c : List Rule) (at : ℕ) → (n == 1) ≡ fal
 temps_rule n v a b c at one two h =
     small v (kept_first (rule (nat_lt 4096 v) at kind.Register) [] (sym (ap (λ (z : Bool). first_broken (if z then a else if n == 2 then rule (nat_lt 4096 v) at kind.Register ∷ [] else if n == 3 then b else c)) one
     ∙ ap (λ (z : Bool). first_broken (if z then rule (nat_lt 4096 v) at kind.Register ∷ [] else if n == 3 then b else c)) two) ∙ h))
+
+-- ## The slots that items declare
+
+some_is : {x y : Declared} → Some x ≡ Some y → x ≡ y
+some_is e = cc
+
+-- the rules of a declaration, by its opcode and its words
+abbrev rules_by : (n : ℕ) (more : List ℕ) (at : ℕ) → (ℕ → Bool) → List Rule
+rules_by n more at taken =
+    let slot = slice_index more 0 in
+    let form = slice_index more 1 in
+    let slot_rule = rule (nat_le (slots_of n) slot || taken n) (at + 1) kind.Slot in
+    if n == 1 then rule (not (is_group more)) (at + 1) kind.Group ∷ []
+    else if n == 2 then rule (nat_lt 4096 slot) (at + 1) kind.Register ∷ []
+    else if n == 3 then slot_rule ∷ []
+    else slot_rule
+    ∷ rule (nat_lt 2 form) (at + 2) kind.Slot
+    ∷ rule (not (takes_parameter (form_of form) (slice_index more 2))) (at + 3) kind.Slot
+    ∷ []
+
+below_limit : (limit slot : ℕ) (taken : Bool) → nat_le limit slot || taken ≡ false → slot < limit
+below_limit limit slot true h = grind (arith, nat_tests)
+below_limit limit slot false h = grind (arith, nat_tests)
+
+slot_below : (n slot at : ℕ) (taken : Bool) (rest : List Rule) → first_broken (rule (nat_le (slots_of n) slot || taken) at kind.Slot ∷ rest) ≡ None → slot < slots_of n
+slot_below n slot at taken rest h = below_limit (slots_of n) slot taken (kept_first (rule (nat_le (slots_of n) slot || taken) at kind.Slot) rest h)
+
+-- a slot with a form
+formed_fits : (n : ℕ) (more : List ℕ) (at : ℕ) (taken : Bool)
+    → first_broken (rule (nat_le (slots_of n) (slice_index more 0) || taken) (at + 1) kind.Slot ∷ rule (nat_lt 2 (slice_index more 1)) (at + 2) kind.Slot ∷ rule (not (takes_parameter (form_of (slice_index more 1)) (slice_index more 2))) (at + 3) kind.Slot ∷ []) ≡ None
+    → DeclaredFits (record { opcode = n; slot = slice_index more 0; form = form_of (slice_index more 1); parameter = slice_index more 2 })
+formed_fits n more at taken h =
+    let form = rule (nat_lt 2 (slice_index more 1)) (at + 2) kind.Slot in
+    let parameter = rule (not (takes_parameter (form_of (slice_index more 1)) (slice_index more 2))) (at + 3) kind.Slot in
+    let all : List Rule = rule (nat_le (slots_of n) (slice_index more 0) || taken) (at + 1) kind.Slot ∷ form ∷ parameter ∷ [] in
+    record {
+      slot = slot_below n (slice_index more 0) (at + 1) taken (form ∷ parameter ∷ []) h;
+      parameter = not_false (takes_parameter (form_of (slice_index more 1)) (slice_index more 2)) (kept_first parameter [] (kept_later 2 all h));
+    }
+
+declared_case : (n : ℕ) (more : List ℕ) (at : ℕ) (taken : ℕ → Bool) (d : Declared) (b3 b4 b5 : Bool) → (n == 3) ≡ b3 → (n == 4) ≡ b4 → (n == 5) ≡ b5
+    → (is_some (declares n) ≡ true → first_broken (rules_by n more at taken) ≡ None) → declared_by n more ≡ Some d → DeclaredFits d
+declared_case n more at taken d true b4 b5 e3 e4 e5 h is =
+    let e : n ≡ 3 = eqb-true n 3 e3 in
+    let rules : first_broken (rules_by 3 more at taken) ≡ None = subst (λ z. first_broken (rules_by z more at taken) ≡ None) e (h (ap (λ z. is_some (declares z)) e)) in
+    let same : Some (record { opcode = 3; slot = slice_index more 0; form = Raw; parameter = 0 }) ≡ Some d = ap (λ z. declared_by z more) (sym e) ∙ is in
+    let fits : DeclaredFits (record { opcode = 3; slot = slice_index more 0; form = Raw; parameter = 0 }) = record { slot = slot_below 3 (slice_index more 0) (at + 1) (taken 3) [] rules; parameter = refl } in
+    subst DeclaredFits (some_is same) fits
+declared_case n more at taken d false true b5 e3 e4 e5 h is =
+    let e : n ≡ 4 = eqb-true n 4 e4 in
+    let rules : first_broken (rules_by 4 more at taken) ≡ None = subst (λ z. first_broken (rules_by z more at taken) ≡ None) e (h (ap (λ z. is_some (declares z)) e)) in
+    let same : declared_by 4 more ≡ Some d = ap (λ z. declared_by z more) (sym e) ∙ is in
+    subst DeclaredFits (some_is same) (formed_fits 4 more at (taken 4) rules)
+declared_case n more at taken d false false true e3 e4 e5 h is =
+    let e : n ≡ 5 = eqb-true n 5 e5 in
+    let rules : first_broken (rules_by 5 more at taken) ≡ None = subst (λ z. first_broken (rules_by z more at taken) ≡ None) e (h (ap (λ z. is_some (declares z)) e)) in
+    let same : declared_by 5 more ≡ Some d = ap (λ z. declared_by z more) (sym e) ∙ is in
+    subst DeclaredFits (some_is same) (formed_fits 5 more at (taken 5) rules)
+declared_case n more at taken d false false false e3 e4 e5 h is =
+    let none : None ≡ Some d =
+    sym (ap (λ (z : Bool). if z then Some (record { opcode = 3; slot = slice_index more 0; form = Raw; parameter = 0 }) else if n == 4 then formed 4 else if n == 5 then formed 5 else None) e3
+    ∙ ap (λ (z : Bool). if z then formed 4 else if n == 5 then formed 5 else None) e4
+    ∙ ap (λ (z : Bool). if z then formed 5 else None) e5) ∙ is in
+    cc
+  where
+    formed : ℕ → Option Declared
+    formed k = Some (record { opcode = k; slot = slice_index more 0; form = form_of (slice_index more 1); parameter = slice_index more 2 })
+
+cons_declared : (o : Option Declared) (ds : List Declared) → ((d : Declared) → o ≡ Some d → DeclaredFits d) → AllByRecursion DeclaredFits ds → AllByRecursion DeclaredFits (cons_option o ds)
+cons_declared None ds h rest = rest
+cons_declared (Some d) ds h rest = (h d refl, rest)
+
+-- the slots that items without a fault declare fit
+pub all_declared : (earlier later : List Item) → items_fault earlier later ≡ None → AllByRecursion DeclaredFits (declarations later)
+all_declared earlier [] h = tt
+all_declared earlier (item ∷ later) h =
+    let said = said_by earlier in
+    let both = neither (item_fault said item) (items_fault (item ∷ earlier) later) h in
+    cons_declared (declared_of item) (declarations later)
+    (λ d is. declared_case (opcode item) item.more item.at (λ n. is_some (declared_among n (slice_index item.more 0) said.declared)) d (opcode item == 3) (opcode item == 4) (opcode item == 5) refl refl refl (own_rules said item both.0) is)
+    (all_declared (item ∷ earlier) later both.1)
+
+-- ## What is declared of a slot
+
+pub record Found (n k : ℕ) (d : Declared) : Type 0 where
+  pub fits : DeclaredFits d
+  pub opcode : d.opcode ≡ n
+  pub slot : d.slot ≡ k
+
+found_here : (n slot : ℕ) (a d : Declared) (x : Option Declared) (b c : Bool) → (a.opcode == n) ≡ b → (a.slot == slot) ≡ c → DeclaredFits a → (x ≡ Some d → Found n slot d)
+    → (if b then (if c then Some a else x) else x) ≡ Some d → Found n slot d
+found_here n slot a d x true true eb ec fits later is = subst (Found n slot) (some_is is) (record { fits = fits; opcode = eqb-true a.opcode n eb; slot = eqb-true a.slot slot ec })
+found_here n slot a d x true false eb ec fits later is = later is
+found_here n slot a d x false c eb ec fits later is = later is
+
+-- the declaration of a slot by an opcode is of that slot and opcode, and fits
+pub found_fits : (n slot : ℕ) (ds : List Declared) (d : Declared) → AllByRecursion DeclaredFits ds → declared_among n slot ds ≡ Some d → Found n slot d
+found_fits n slot [] d all is = cc
+found_fits n slot (a ∷ ds) d all is = found_here n slot a d (declared_among n slot ds) (a.opcode == n) (a.slot == slot) refl refl all.0 (found_fits n slot ds d all.1) is

@@ -16,7 +16,7 @@ use Rattle.shader_model.specs.Shader.{Program, program_with, sizes_of, spelled_b
 use Rattle.shader_model.specs.Good.{IsGood}
 use Rattle.shader_model.proofs.Spelling.{kept_first, kept_later, kept_both, not_false, neither, items_nest}
 use Rattle.shader_model.proofs.Fitting.{tree_fits}
-use Rattle.shader_model.proofs.Declaring.{all_fit, temps_rule}
+use Rattle.shader_model.proofs.Declaring.{own_rules, all_fit, temps_rule, all_declared}
 use Rattle.shader_model.proofs.Depth.{tree_depth, tree_size}
 
 pub words_length : (b : List ℕ) → length (words_of b) ≡ length b / 4
@@ -41,12 +41,6 @@ statements_length [] = omega arith
 statements_length (item ∷ items) = omega (arith, some_length (statement_of item) (statements items), statements_length items)
 
 -- ## The first item
-
--- the rules of a good item that is a declaration
-own_rules : (said : Said) (item : Item) → item_fault said item ≡ None → is_declaration item ≡ true → first_broken (declaration_rules said item) ≡ None
-own_rules said item h is =
-    let more : List Rule = if is_declaration item then declaration_rules said item else instruction_rules said item in
-    ap (λ (b : Bool). first_broken (if b then declaration_rules said item else instruction_rules said item)) (sym is) ∙ (kept_both (first_word_rules said item) more h).1
 
 first_rules : (said : Said) (item : Item) → item_fault said item ≡ None → first_broken (first_word_rules said item) ≡ None
 first_rules said item h =
@@ -142,6 +136,7 @@ good_program bytes p h is =
       group = group.0;
       sizes = group.1;
       temps = temps_small [] items inner.1;
+      declared = all_declared [] items inner.1;
       fits = tree_fits (declarations items) (unwrap_or (temps_said items) 0) (statements items) found.0 found.1.0 (all_fit [] items inner.1);
       nesting = tree_depth (statements items) found.0 (items_nest [] items inner.1) found.1.0;
       nodes = omega (arith, tree_size (statements items) found.0 found.1.0, few);

@@ -15,7 +15,7 @@ use Rattle.shader_model.specs.declared.opcode.Access.TheVariants.{Loads, Stores,
 use Rattle.shader_model.specs.Words.{bits, file_in, mask_in, index_in, flag_in, writable_in, extra_in, words_of}
 use Rattle.shader_model.specs.Opcodes.{row_of}
 use Rattle.shader_model.specs.Items.{Item, Part, opcode, items_of, parts_of, is_declaration, is_known, has_its_length}
-use Rattle.shader_model.specs.Fields.{statement_of, statements, declarations, declared_among, used_as, slot_use_of, temps_said}
+use Rattle.shader_model.specs.Fields.{form_of, statement_of, statements, declarations, declared_among, used_as, slot_use_of, temps_said}
 use Rattle.shader_model.specs.Nesting.{Block, opened, has_place}
 
 -- ## Rules
@@ -91,11 +91,10 @@ is_group sizes =
     && nat_le (slice_index sizes 0 * slice_index sizes 1 * slice_index sizes 2) 1024
 
 -- the parameter that a form takes: none, a stride, a number of components
-abbrev pub is_parameter : (form parameter : ℕ) → Bool
-is_parameter form p =
-    if form == 0 then p == 0
-    else if form == 1 then (p % 4 == 0) && nat_le 4 p && nat_le p 2048
-    else (p == 1) || (p == 2) || (p == 4)
+abbrev pub takes_parameter : Form → (parameter : ℕ) → Bool
+takes_parameter Raw p = p == 0
+takes_parameter Structured p = (p % 4 == 0) && nat_le 4 p && nat_le p 2048
+takes_parameter Typed p = (p == 1) || (p == 2) || (p == 4)
 
 -- the rules of a declaration's words after its first
 abbrev pub declaration_rules : Said → Item → List Rule
@@ -109,7 +108,7 @@ declaration_rules said item =
     else if n == 3 then slot_rule ∷ []
     else slot_rule
     ∷ rule (nat_lt 2 form) (item.at + 2) kind.Slot
-    ∷ rule (not (is_parameter form (slice_index item.more 2))) (item.at + 3) kind.Slot
+    ∷ rule (not (takes_parameter (form_of form) (slice_index item.more 2))) (item.at + 3) kind.Slot
     ∷ []
 
 -- ## Operands

@@ -1,5 +1,6 @@
 -- What holds of each decoded shader: every slot and register that it names is declared.
 use Rattle.std.specs.Prelude.{◌≡◌, ℕ, ◌<◌, ◌≤◌, ◌≢◌, ◌+◌, suc, max, Bool, true, false, List, count_by, length, nat_lt, Option, Some, None, is_some, slice_index, slice_index_or, IsTrue, IsSome}
+use Rattle.std.specs.List.{AllByRecursion}
 use Rattle.shader_model.specs.declared.tree.Declared.{Declared}
 use Rattle.shader_model.specs.declared.tree.Target.{Target}
 use Rattle.shader_model.specs.declared.tree.Operand.{Operand}
@@ -15,7 +16,7 @@ use Rattle.shader_model.specs.declared.statement.Statement.TheVariants as word
 use Rattle.shader_model.specs.Words.{index_in}
 use Rattle.shader_model.specs.Opcodes.{kinds, row_of}
 use Rattle.shader_model.specs.Fields.{declared_among, used_as}
-use Rattle.shader_model.specs.Faults.{takes_slot, takes_extra, is_group}
+use Rattle.shader_model.specs.Faults.{takes_slot, takes_extra, takes_parameter, slots_of, is_group}
 use Rattle.shader_model.specs.Body.{Body, End, Plain, If, Loop, Break, Continue, Return}
 use Rattle.shader_model.specs.Shader.{Program}
 
@@ -102,6 +103,11 @@ module _ (ds : List Declared) (temps : ℕ) where
   Fits (Continue t rest) = MaybeFits TestFits t × Fits rest
   Fits (Return t rest) = MaybeFits TestFits t × Fits rest
 
+-- a declared slot is below the limit of its kind, and its form takes its parameter
+pub record DeclaredFits (d : Declared) : Type 0 where
+  pub slot : d.slot < slots_of d.opcode
+  pub parameter : takes_parameter d.form d.parameter ≡ true
+
 -- how deep ifs and loops stand in one another, and how many nodes a block has in all
 abbrev pub depth : Body → ℕ
 depth End = 0
@@ -126,6 +132,7 @@ pub record IsGood (p : Program) : Type 0 where
   pub group : is_group p.group ≡ true
   pub sizes : length p.group ≡ 3
   pub temps : p.temps ≤ 4096
+  pub declared : AllByRecursion DeclaredFits p.declared
   pub fits : Fits p.declared p.temps p.body
   pub nesting : depth p.body ≤ 64
   pub nodes : size p.body ≤ 65536

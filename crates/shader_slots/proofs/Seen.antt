@@ -1,5 +1,5 @@
 -- What slots are seen as, once one of them was bound, taken back or written.
-use Rattle.std.proofs.Common.{◌≡◌, ℕ, zero, suc, ◌≤◌, List, [], ◌∷◌, length, map, get_or, Bor, Option, Some, None, refl, ap, sym, ◌∙◌, arith}
+use Rattle.std.proofs.Common.{◌≡◌, ℕ, zero, suc, ◌+◌, ◌*◌, ◌^◌, ◌<◌, ◌≤◌, List, [], ◌∷◌, length, map, get_or, Bor, Option, Some, None, refl, ap, sym, ◌∙◌, arith}
 use Rattle.std.proofs.Math.ListN.{set, get_or-map}
 use Rattle.std.proofs.lemmas.List.{map-set}
 use Rattle.std.proofs.Math.Seq.{map-set_same}
@@ -23,6 +23,43 @@ limit_set m (x ∷ xs) (suc k) w h l (suc n) = limit_set m xs k w (λ j. h (suc 
 pub limit_put : (m : ℕ) (slots new : List (List ℕ)) (k : ℕ) (w : List ℕ) → new ≡ set slots k w → ((n : ℕ) → length (words_in slots n) ≤ m) → length w ≤ m
     → (n : ℕ) → length (words_in new n) ≤ m
 limit_put m slots new k w e h l n = rw e (limit_set m slots k w h l n)
+
+-- words of 32 bits are still so where a slot gets other such words
+abbrev pub Fit : List ℕ → Type 0
+Fit w = (i : ℕ) → get_or w i 0 < 4294967296
+
+pub fit_set : (slots : List (List ℕ)) (k : ℕ) (w : List ℕ) → ((n : ℕ) → Fit (words_in slots n)) → Fit w → (n : ℕ) → Fit (words_in (set slots k w) n)
+fit_set [] k w h l n = h n
+fit_set (x ∷ xs) zero w h l zero = l
+fit_set (x ∷ xs) zero w h l (suc n) = h (suc n)
+fit_set (x ∷ xs) (suc k) w h l zero = h zero
+fit_set (x ∷ xs) (suc k) w h l (suc n) = fit_set xs k w (λ j. h (suc j)) l n
+
+pub fit_put : (slots new : List (List ℕ)) (k : ℕ) (w : List ℕ) → new ≡ set slots k w → ((n : ℕ) → Fit (words_in slots n)) → Fit w → (n : ℕ) → Fit (words_in new n)
+fit_put slots new k w e h l n = rw e (fit_set slots k w h l n)
+
+-- and where one of them is set
+pub fit_word : (w : List ℕ) (k v : ℕ) → v < 4294967296 → Fit w → Fit (set w k v)
+fit_word [] k v lt h i = h i
+fit_word (x ∷ xs) zero v lt h zero = lt
+fit_word (x ∷ xs) zero v lt h (suc i) = h (suc i)
+fit_word (x ∷ xs) (suc k) v lt h zero = h zero
+fit_word (x ∷ xs) (suc k) v lt h (suc i) = fit_word xs k v lt (λ j. h (suc j)) i
+
+pub fit_none : Fit []
+fit_none i = omega arith
+
+-- four bytes make 32 bits
+pub bytes_fit : (b : List ℕ) → ((i : ℕ) → get_or b i 0 < 256) → Fit (words_of b)
+bytes_fit [] h i = omega arith
+bytes_fit (a ∷ []) h i = omega arith
+bytes_fit (a ∷ b ∷ []) h i = omega arith
+bytes_fit (a ∷ b ∷ c ∷ []) h i = omega arith
+bytes_fit (a ∷ b ∷ c ∷ d ∷ rest) h zero = below a b c d (h 0) (h 1) (h 2) (h 3)
+  where
+    below : (a b c d : ℕ) → a < 256 → b < 256 → c < 256 → d < 256 → a + 2 ^ 8 * b + 2 ^ 16 * c + 2 ^ 24 * d < 4294967296
+    below a b c d p q r s = omega arith
+bytes_fit (a ∷ b ∷ c ∷ d ∷ rest) h (suc i) = bytes_fit rest (λ j. h (suc (suc (suc (suc j))))) i
 
 -- ## Bytes that are lent
 

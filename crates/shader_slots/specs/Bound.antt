@@ -1,5 +1,5 @@
 -- What is bound for a dispatch: the words of each slot, and the bytes around each part that is written.
-use Rattle.std.specs.Prelude.{ℕ, ◌≤◌, length, List, [], map, replicate, slice_set, slice_index_or, Option, Some, None}
+use Rattle.std.specs.Prelude.{ℕ, ◌<◌, ◌≤◌, slice_index, length, List, [], map, replicate, slice_set, slice_index_or, Option, Some, None}
 use Rattle.shader_model.specs.Invocation.{Slots, words_in}
 use Rattle.shader_slots.specs.Part.{Part}
 
@@ -34,11 +34,14 @@ abbrev pub with_word : (i value : ℕ) → Option Part → Option Part
 with_word i value None = None
 with_word i value (Some p) = Some (record p { words = slice_set p.words i value })
 
--- no slot has more words than a buffer of 16,777,216 bytes
+-- no slot has more words than a buffer of 16,777,216 bytes, and each word has 32 bits
 pub record WithinLimit (s : Slots) : Type 0 where
   pub constants : (n : ℕ) → length (words_in s.constants n) ≤ 4194304
   pub reads : (n : ℕ) → length (words_in s.reads n) ≤ 4194304
   pub writes : (n : ℕ) → length (words_in s.writes n) ≤ 4194304
+  pub constant_words : (n i : ℕ) → slice_index (words_in s.constants n) i < 4294967296
+  pub read_words : (n i : ℕ) → slice_index (words_in s.reads n) i < 4294967296
+  pub write_words : (n i : ℕ) → slice_index (words_in s.writes n) i < 4294967296
 
 -- nothing is bound
 abbrev pub unbound : Bound

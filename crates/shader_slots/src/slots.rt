@@ -53,6 +53,7 @@ impl<'a> Slots<'a> {
         requires limit { length part.now ≤ 16777216 }
         ensures { self.new ≡ with_constant slot (words_of part.now) self.old }
     {
+        words::have_bits(part);
         self.constants[slot] = part;
     }
 
@@ -63,6 +64,7 @@ impl<'a> Slots<'a> {
         requires limit { length part.now ≤ 16777216 }
         ensures { self.new ≡ with_read slot (words_of part.now) self.old }
     {
+        words::have_bits(part);
         self.reads[slot] = part;
     }
 
@@ -91,7 +93,7 @@ impl<'a> Slots<'a> {
         self.writes.parts
     }
 
-    /// No slot has more than 4,194,304 words.
+    /// No slot has more than 4,194,304 words, and each has 32 bits.
     pub fn within_limit(&self)
         ensures { WithinLimit self.now.words }
     {

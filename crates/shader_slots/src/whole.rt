@@ -1,4 +1,4 @@
-ghost use Rattle.std.specs.Prelude.{◌≡◌, ◌-◌, ◌%◌, ◌<◌, ◌≤◌, length, slice_index, slice_set, vec_len};
+ghost use Rattle.std.specs.Prelude.{ℕ, ◌≡◌, ◌-◌, ◌%◌, ◌<◌, ◌≤◌, length, slice_index, slice_set, vec_len};
 ghost use Rattle.shader_slots.specs.Part.{part_of, bytes_of};
 
 use crate::words;
@@ -49,6 +49,13 @@ impl Whole {
         ensures limit { result ≤ 4194304 }
     {
         (self.to - self.from) / 4
+    }
+
+    /// Each word of the part has 32 bits.
+    pub fn has_words(&self)
+        ensures { (i : ℕ) → slice_index self.now.words i < 4294967296 }
+    {
+        words::have_bits(&self.bytes[self.from..self.to]);
     }
 
     /// A word of the part.

@@ -1,6 +1,6 @@
 // The words of little-endian bytes.
 
-ghost use Rattle.std.specs.Prelude.{◌≡◌, ◌<◌, length, slice_index, slice_set};
+ghost use Rattle.std.specs.Prelude.{ℕ, ◌≡◌, ◌<◌, length, slice_index, slice_set};
 ghost use Rattle.shader_model.specs.Words.{words_of};
 
 use byteorder::{ByteOrder, LittleEndian};
@@ -10,6 +10,13 @@ pub fn len(bytes: &[u8]) -> usize
     ensures { result ≡ length (words_of bytes.now) }
 {
     bytes.len() / 4
+}
+
+/// Each word has 32 bits.
+pub fn have_bits(bytes: &[u8])
+    ensures { (i : ℕ) → slice_index (words_of bytes.now) i < 4294967296 }
+{
+    let _count = bytes.len();
 }
 
 /// The word at a place.

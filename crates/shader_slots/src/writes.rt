@@ -1,4 +1,4 @@
-ghost use Rattle.std.specs.Prelude.{◌≡◌, ◌<◌, ◌≤◌, length, replicate, slice_index, slice_index_or, slice_set, None, Some};
+ghost use Rattle.std.specs.Prelude.{ℕ, ◌≡◌, ◌<◌, ◌≤◌, length, replicate, slice_index, slice_index_or, slice_set, None, Some};
 ghost use Rattle.shader_slots.specs.Bound.{words_bound, with_word};
 
 use crate::whole::Whole;
@@ -25,8 +25,10 @@ impl Writes {
         requires { slot < 8 }
         ensures put { self.new.parts ≡ slice_set self.old.parts slot (Some part) }
         ensures limit { length part.words ≤ 4194304 }
+        ensures words { (i : ℕ) → slice_index part.words i < 4294967296 }
     {
         prove!(part.len() <= 4_194_304);
+        part.has_words();
         self.parts[slot] = Some(part);
     }
 

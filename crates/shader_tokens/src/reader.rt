@@ -21,7 +21,7 @@ use crate::item::{Item, declares, has_its_length, opcode, operand_more, source_m
 use crate::levels::Levels;
 use crate::nesting::{StepEnd, step};
 use crate::rules::{
-    declared_among, fault, is_destination, is_group, is_parameter, is_relative, is_source,
+    declared_among, fault, is_destination, is_group, is_relative, is_source,
     lacks_register, takes_extra, takes_slot, used_as,
 };
 use crate::table::{find_row, kinds};
@@ -131,7 +131,7 @@ impl Reader {
             None
         } else if word(item.more, 1) > 2 {
             Some(fault(item.at + 2, ShaderKind::Slot))
-        } else if !is_parameter(word(item.more, 1), word(item.more, 2)) {
+        } else if !takes_parameter(word(item.more, 1), word(item.more, 2)) {
             Some(fault(item.at + 3, ShaderKind::Slot))
         } else {
             None

@@ -119,8 +119,8 @@ pub fn is_group(x: u32, y: u32, z: u32) -> bool
 }
 
 /// Whether a form takes a parameter: raw none, structured a stride, typed a number of components.
-pub fn is_parameter(form: u32, parameter: u32) -> bool
-    ensures { result ≡ faults.is_parameter form parameter }
+pub fn takes_parameter(form: u32, parameter: u32) -> bool
+    ensures { result ≡ faults.takes_parameter (fields.form_of form) parameter }
 {
     match form {
         0 => parameter == 0,

@@ -39,7 +39,9 @@ pub use builder::Builder;
 pub use code::{AtomicCode, BinaryCode, Opcode, UnaryCode};
 pub use end::ModuleEnd;
 pub use fault::{ModuleFault, ModuleKind};
+pub use front::{FrontView, front_of};
 pub use module::{Module, read_module};
+pub use op::Op;
 
 #[cfg(test)]
 mod tests;

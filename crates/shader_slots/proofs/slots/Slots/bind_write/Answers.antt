@@ -1,7 +1,7 @@
 use Rattle.std.proofs.Common.{Some, map, ap, ◌∙◌}
 use Rattle.std.proofs.lemmas.List.{map-set}
 use Rattle.shader_slots.specs.Bound.{seen, words_bound, with_write}
-use Rattle.shader_slots.proofs.Seen.{lent, limit_put, seen_put}
+use Rattle.shader_slots.proofs.Seen.{lent, limit_put, fit_put, seen_put}
 use Rattle.shader_slots.proofs.slots.Slots.bind_write.Goals as goal
 
 pub invariant_of-self : goal.invariant_of-self
@@ -11,6 +11,9 @@ invariant_of-self c =
       constants = c.self.invariant.constants;
       reads = c.self.invariant.reads;
       writes = limit_put 4194304 (map words_bound parts) _ c.args.slot c.args.part.words (ap (map words_bound) c.put.ensures.put ∙ map-set words_bound parts c.args.slot (Some c.args.part)) c.self.invariant.writes c.put.ensures.limit;
+      constant_words = c.self.invariant.constant_words;
+      read_words = c.self.invariant.read_words;
+      write_words = fit_put (map words_bound parts) _ c.args.slot c.args.part.words (ap (map words_bound) c.put.ensures.put ∙ map-set words_bound parts c.args.slot (Some c.args.part)) c.self.invariant.write_words c.put.ensures.words;
     }
 
 pub returns : goal.returns
