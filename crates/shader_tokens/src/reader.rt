@@ -22,7 +22,7 @@ use crate::levels::Levels;
 use crate::nesting::{StepEnd, step};
 use crate::rules::{
     declared_among, fault, is_destination, is_group, is_relative, is_source,
-    lacks_register, takes_extra, takes_slot, used_as,
+    lacks_register, takes_extra, takes_parameter, takes_slot, used_as,
 };
 use crate::table::{find_row, kinds};
 use crate::words::{behind, bits, front, word};
