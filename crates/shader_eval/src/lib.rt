@@ -21,6 +21,3 @@ pub use dispatch::run_groups;
 pub use frame::Frame;
 pub use invocation::invoke;
 pub use shader_model::Ids;
-
-#[cfg(test)]
-mod tests;

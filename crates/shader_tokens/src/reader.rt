@@ -21,8 +21,8 @@ use crate::item::{Item, declares, has_its_length, opcode, operand_more, source_m
 use crate::levels::Levels;
 use crate::nesting::{StepEnd, step};
 use crate::rules::{
-    declared_among, fault, is_destination, is_group, is_relative, is_source,
-    lacks_register, takes_extra, takes_parameter, takes_slot, used_as,
+    declared_among, fault, is_destination, is_group, is_relative, is_source, lacks_register,
+    takes_extra, takes_parameter, takes_slot, used_as,
 };
 use crate::table::{find_row, kinds};
 use crate::words::{behind, bits, front, word};

@@ -1,12 +1,9 @@
-mod computes;
-mod shaders;
-
-use crate::{Frame, run_groups};
-use computes::{ATOMICS, Atomic, COMPUTES, Computes, OLD, SOURCES, VALUES};
+use crate::computes::{ATOMICS, Atomic, COMPUTES, Computes, OLD, SOURCES, VALUES};
+use crate::shaders::{GROUPED, Runs, SHADERS};
+use shader_eval::{Frame, run_groups};
 use shader_model::Shader;
 use shader_slots::{Slots, Whole};
 use shader_tokens::{ShaderEnd, decode};
-use shaders::{GROUPED, Runs, SHADERS};
 use std::alloc::{AllocError, Global};
 use std::test::Fail;
 
