@@ -31,3 +31,6 @@ mod Loading
 mod Loads
 mod Doing
 mod Worked
+mod Viewing
+mod Storing
+mod Changing

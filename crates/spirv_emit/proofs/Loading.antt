@@ -50,7 +50,7 @@ fetch_at : (ids : Ids) (b x : ℕ) (f : Frame) (q : Option ℕ) → done_at ids 
 fetch_at ids b x f None = refl
 fetch_at ids b x f (Some i) = refl
 
-never : (t u : Bool) → u ≡ false → (t && u) ≡ false
+pub never : (t u : Bool) → u ≡ false → (t && u) ≡ false
 never true u e = e
 never false u e = refl
 

@@ -19,14 +19,14 @@ use Rattle.spirv_emit.specs.Frames.{Frame, leaf_word, steps_value, calculated, a
 use Rattle.spirv_emit.proofs.Placing.{raw_tells, raw_gives, structured_tells, structured_gives, typed_tells, typed_gives}
 
 -- the word w of the element x of k words is one of n
-element_inside : (x w k n : ℕ) → x < n / k → w < k → x * k + w < n
+pub element_inside : (x w k n : ℕ) → x < n / k → w < k → x * k + w < n
 element_inside x w k n lx lw =
     let h = div-mul-le_self n k in
     let m : suc x * k ≤ n / k * k = mul-le-mul (let z : suc x ≤ n / k = omega (arith, lx) in z) (let z : k ≤ k = omega arith in z) in
     let s : suc x * k ≡ x * k + k = omega arith in
     omega (arith, h, m, s, lw)
 
-and_parts : (a b : Bool) → (a && b) ≡ true → (a ≡ true) × (b ≡ true)
+pub and_parts : (a b : Bool) → (a && b) ≡ true → (a ≡ true) × (b ≡ true)
 and_parts true true e = (refl, refl)
 and_parts true false e = cc
 and_parts false b e = cc
