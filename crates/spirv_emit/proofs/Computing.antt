@@ -60,7 +60,7 @@ words f ids s i c = formula_word f (source ids s i 0 c) (source ids s i 1 c) (so
 -- ## Rows
 
 -- a fact on each row and its number
-abbrev EachRow : (Row → ℕ → Type 0) → List Row → Type 0
+abbrev pub EachRow : (Row → ℕ → Type 0) → List Row → Type 0
 EachRow P [] = Unit {0}
 EachRow P (r ∷ rs) = P r r.number × EachRow P rs
 
@@ -77,7 +77,7 @@ row_is P n (x ∷ rs) r e h =
     (λ (t : (eqb x.number n ≡ false) × (x.number ≢ n)). row_is P n rs r (sym (ap (λ (b : Bool). if b then Some x else row_among n rs) t.0) ∙ e) h.1)
     (eqb_tells x.number n)
 
-none_of : (q : Option Target) → is_some q ≡ false → q ≡ None
+pub none_of : (q : Option Target) → is_some q ≡ false → q ≡ None
 none_of None e = refl
 none_of (Some t) e = cc
 

@@ -183,11 +183,11 @@ module _ (at : Layout) (Has : ℕ → Type 0) (pool : Pool at Has) (ids : Ids) (
     append_fits [] ys hx hy = hy
     append_fits (x ∷ xs) ys hx hy = (hx.0, append_fits xs ys hx.1 hy)
 
-    only_fits : (b : Bool) (p : Piece) → PieceFits at Has pool ids p → PiecesFit at Has pool ids (only_if b p)
+    pub only_fits : (b : Bool) (p : Piece) → PieceFits at Has pool ids p → PiecesFit at Has pool ids (only_if b p)
     only_fits true p h = (h, tt)
     only_fits false p h = tt
 
-    masked_fits : (m : ℕ) (x y z w : Piece) → PieceFits at Has pool ids x → PieceFits at Has pool ids y → PieceFits at Has pool ids z → PieceFits at Has pool ids w → PiecesFit at Has pool ids (masked m x y z w)
+    pub masked_fits : (m : ℕ) (x y z w : Piece) → PieceFits at Has pool ids x → PieceFits at Has pool ids y → PieceFits at Has pool ids z → PieceFits at Has pool ids w → PiecesFit at Has pool ids (masked m x y z w)
     masked_fits m x y z w hx hy hz hw =
         append_fits (only_if (bit 0 m) x) (only_if (bit 1 m) y ++ (only_if (bit 2 m) z ++ only_if (bit 3 m) w)) (only_fits (bit 0 m) x hx)
         (append_fits (only_if (bit 1 m) y) (only_if (bit 2 m) z ++ only_if (bit 3 m) w) (only_fits (bit 1 m) y hy)

@@ -34,3 +34,5 @@ mod Worked
 mod Viewing
 mod Storing
 mod Changing
+mod Accessing
+mod Instructions
