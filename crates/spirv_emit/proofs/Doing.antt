@@ -1,6 +1,6 @@
--- The pieces of an instruction that computes, and those of a test, do what these do.
+-- The pieces of an instruction, and those of a test, do what these do.
 use Rattle.std.proofs.Common.{◌≡◌, ℕ, ◌+◌, ◌*◌, ◌<◌, Bool, true, false, if◌then◌else◌, List, [], ◌∷◌, ◌++◌, Option, Some, None, refl, sym, ap, ◌∙◌, subst, arith}
-use Rattle.std.specs.Prelude.{◌==◌, nat_le, slice_index, slice_index_or, is_some}
+use Rattle.std.specs.Prelude.{◌==◌, slice_index, slice_index_or}
 use Rattle.std.proofs.lemmas.Bool.{eqb-true}
 use Rattle.shader_model.specs.declared.ids.Ids.{Ids}
 use Rattle.shader_model.specs.declared.tree.Declared.{Declared}
@@ -11,15 +11,16 @@ use Rattle.shader_model.specs.declared.tree.Test.{Test}
 use Rattle.shader_model.specs.declared.opcode.Row.{Row}
 use Rattle.shader_model.specs.Words.{picked, index_in, swizzle_in}
 use Rattle.shader_model.specs.Opcodes.{kinds, row_of}
-use Rattle.shader_model.specs.Good.{MaybeFits, OperandFits, HasOperands}
-use Rattle.shader_model.specs.Invocation.{State, done_with, done}
+use Rattle.shader_model.specs.Fields.{used_as}
+use Rattle.shader_model.specs.Good.{MaybeFits, OperandFits, SlotFits, HasOperands}
+use Rattle.shader_model.specs.Invocation.{State}
 use Rattle.spirv_emit.specs.declared.formula.Formula.TheVariants as formula
 use Rattle.spirv_emit.specs.declared.piece.Leaf.TheVariants.{Number, Length}
 use Rattle.spirv_emit.specs.declared.piece.Piece.{Piece}
 use Rattle.spirv_emit.specs.Layout.{Layout, bindings}
 use Rattle.spirv_emit.specs.Numbers.{has, own_numbers}
 use Rattle.spirv_emit.specs.Lower as lower
-use Rattle.spirv_emit.specs.Lower.{nought, calculation, fetched, fetch, fetches, all_fetches, leaf_of, temporary, plain_pieces, done_pieces, instr_pieces, test_pieces, test_calculation}
+use Rattle.spirv_emit.specs.Lower.{nought, calculation, fetched, fetch, fetches, all_fetches, leaf_of, temporary, done_pieces, instr_pieces, test_pieces, test_calculation}
 use Rattle.spirv_emit.specs.Frames.{Frame, pieces_done}
 use Rattle.spirv_emit.proofs.Holds.{Pool}
 use Rattle.spirv_emit.proofs.Pieces.{PieceFits, PiecesFit}
@@ -27,14 +28,10 @@ use Rattle.spirv_emit.proofs.Following.{Shows}
 use Rattle.spirv_emit.proofs.Blocks.{InstrDoes, TestDoes}
 use Rattle.spirv_emit.proofs.Leaving.{ThreeIds}
 use Rattle.spirv_emit.proofs.Writing.{then_pieces}
-use Rattle.spirv_emit.proofs.Computing.{both, computes}
-use Rattle.spirv_emit.proofs.Plainly.{TargetHas, plain_does}
-use Rattle.spirv_emit.proofs.Fitting.{calculation_fits, WordsHave, MaybeHave, SourcesFit, leaf_fits, append_fits, plain_fits}
+use Rattle.spirv_emit.proofs.Plainly.{TargetHas}
+use Rattle.spirv_emit.proofs.Fitting.{calculation_fits, WordsHave, MaybeHave, SourcesFit, leaf_fits, append_fits}
 use Rattle.spirv_emit.proofs.Testing.{InPlace, MaybeInPlace, test_tells, all_fetches_do}
-
-no_slot : (q : Option SlotUse) → is_some q ≡ false → q ≡ None
-no_slot None e = refl
-no_slot (Some u) e = cc
+use Rattle.spirv_emit.proofs.Instructions.{turns_kept, ViewFits, instruction_does}
 
 module _ (at : Layout) (Has : ℕ → Type 0) (pool : Pool at Has) (ids : Ids) (own : (v : ℕ) → has own_numbers v ≡ true → Has v) (ds : List Declared) (temps : ℕ) (many : at.variables ≡ 25 + 4 * temps) (three_ids : ThreeIds ids) where
   abbrev Fit : Piece → Type 0
@@ -88,29 +85,26 @@ module _ (at : Layout) (Has : ℕ → Type 0) (pool : Pool at Has) (ids : Ids) (
       let lt = place (eqb-true o.file 2 e) in
       (fetch_fits j 0 o lj (omega arith) fits have lt, (fetch_fits j 1 o lj (omega arith) fits have lt, (fetch_fits j 2 o lj (omega arith) fits have lt, (fetch_fits j 3 o lj (omega arith) fits have lt, tt)))))
 
-  -- ## Instructions that compute
+  -- ## Instructions
 
-  pub plain_instr_does : (i : Instr) (r : Row) (f : Frame) (s : State) → row_of i.opcode ≡ Some r → nat_le r.number 45 ≡ true → HasOperands (kinds r.layout) i → is_some i.slot ≡ false → TargetHas ds temps ids three_ids i.first → TargetHas ds temps ids three_ids i.second → SourcesFit at Has pool ids own ds temps many i → ((j : ℕ) → MaybeInPlace ds temps ids three_ids (slice_index_or i.sources j None)) → Shows temps f s → InstrDoes at Has pool ids temps ds i f s
-  plain_instr_does i r f s er low operands free has1 has2 h place sh =
+  pub instr_does : (i : Instr) (r : Row) (f : Frame) (s : State) → row_of i.opcode ≡ Some r → HasOperands (kinds r.layout) i → ((u : SlotUse) (d : Declared) → used_as u ds ≡ Some d → ViewFits at Has pool ids own ds temps many three_ids u d) → MaybeFits (SlotFits ds temps r.access) i.slot → TargetHas ds temps ids three_ids i.first → TargetHas ds temps ids three_ids i.second → SourcesFit at Has pool ids own ds temps many i → ((j : ℕ) → MaybeInPlace ds temps ids three_ids (slice_index_or i.sources j None)) → Shows temps f s → InstrDoes at Has pool ids temps ds i f s
+  instr_does i r f s er operands views slot has1 has2 h place sh =
       let q : ℕ → Option Operand = λ j. slice_index_or i.sources j None in
-      let slot = no_slot i.slot free in
+      let done_by : List Piece = done_pieces ds i i.slot in
       let a = all_fetches_do ds temps ids three_ids i f s sh h.fits place in
-      let p = plain_does ds temps ids three_ids i a.frame s has1 has2 a.shows h.fits a.got in
-      let same : done ds ids i s ≡ both ds ids s i = ap (λ z. done_with z ds ids i s) er ∙ computes ds ids s i r er operands low in
-      let pieces : instr_pieces ds i ≡ all_fetches i ++ plain_pieces i = ap (λ z. all_fetches i ++ done_pieces ds i z) slot in
+      let p = instruction_does at Has pool ids own ds temps many three_ids i a.frame s has1 has2 h a.shows a.got r er operands views slot in
       let f0 = fetches_fit 0 (q 0) (omega arith) (h.fits 0) (h.have 0) (place 0) in
       let f1 = fetches_fit 1 (q 1) (omega arith) (h.fits 1) (h.have 1) (place 1) in
       let f2 = fetches_fit 2 (q 2) (omega arith) (h.fits 2) (h.have 2) (place 2) in
       let f3 = fetches_fit 3 (q 3) (omega arith) (h.fits 3) (h.have 3) (place 3) in
       let both_fit = append_fits at Has pool ids own ds temps many in
       let fetched_fit = both_fit (fetches 0 (q 0)) (fetches 1 (q 1) ++ (fetches 2 (q 2) ++ fetches 3 (q 3))) f0 (both_fit (fetches 1 (q 1)) (fetches 2 (q 2) ++ fetches 3 (q 3)) f1 (both_fit (fetches 2 (q 2)) (fetches 3 (q 3)) f2 f3)) in
-      let fits = both_fit (all_fetches i) (plain_pieces i) fetched_fit (plain_fits at Has pool ids own ds temps many i has1 has2 h) in
       record {
         frame = p.frame;
-        fits = subst (λ (ps : List Piece). PiecesFit at Has pool ids ps) (sym pieces) fits;
-        does = ap (λ (ps : List Piece). pieces_done ids ps f) pieces ∙ then_pieces ids (all_fetches i) (plain_pieces i) f a.frame p.frame a.does p.does;
-        shows = subst (λ z. Shows temps p.frame z) (sym same) p.shows;
-        turns = ap (λ (z : State). z.turns) same;
+        fits = both_fit (all_fetches i) done_by fetched_fit p.fits;
+        does = then_pieces ids (all_fetches i) done_by f a.frame p.frame a.does p.does;
+        shows = p.shows;
+        turns = turns_kept ds ids i s;
       }
 
   -- ## Tests

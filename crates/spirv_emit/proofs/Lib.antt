@@ -36,3 +36,6 @@ mod Storing
 mod Changing
 mod Accessing
 mod Instructions
+mod Numbered
+mod Bodies
+mod Modules

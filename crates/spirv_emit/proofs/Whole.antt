@@ -51,6 +51,10 @@ each_below P (suc n) h i lt = ⊎_elim (λ (e : i ≡ n). subst P (sym e) h.1) (
 pub Has : List ℕ → ℕ → Type 0
 Has numbers v = has numbers v ≡ true
 
+pub has_id : (numbers : List ℕ) (v : ℕ) → has numbers v ≡ true → Has numbers v
+unfolding Has
+has_id numbers v h = h
+
 place_below : (v : ℕ) (xs : List ℕ) → has xs v ≡ true → place v xs < length xs
 place_below v [] h = cc
 place_below v (x ∷ xs) h =
@@ -94,7 +98,7 @@ own_has : (b : ℕ) → b < bindings → has own_numbers b ≡ true
 own_has = each_below (λ b. has own_numbers b ≡ true) 38 ((((((((((((((((((((((((((((((((((((((tt, refl), refl), refl), refl), refl), refl), refl), refl), refl), refl), refl), refl), refl), refl), refl), refl), refl), refl), refl), refl), refl), refl), refl), refl), refl), refl), refl), refl), refl), refl), refl), refl), refl), refl), refl), refl), refl), refl)
 
 -- those of every module are those of each
-own_in : (p : Program) (v : ℕ) → has own_numbers v ≡ true → has (numbers_of p) v ≡ true
+pub own_in : (p : Program) (v : ℕ) → has own_numbers v ≡ true → has (numbers_of p) v ≡ true
 own_in p v h = has_more (flat_map declared_numbers p.declared ++ body_numbers p.body) own_numbers v h
 
 pub pool_of : (p : Program) → Pool (layout_of p) (Has (numbers_of p))
