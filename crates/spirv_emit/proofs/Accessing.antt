@@ -1,6 +1,6 @@
 -- The pieces of loads, stores and atomics name what is there, and do what the instructions do.
-use Rattle.std.proofs.Common.{◌≡◌, ℕ, ◌+◌, ◌*◌, ◌/◌, ◌%◌, ◌<◌, ◌≤◌, Bool, true, false, if◌then◌else◌, List, [], ◌∷◌, ◌++◌, length, Option, Some, None, refl, sym, ap, ◌∙◌, subst, arith}
-use Rattle.std.specs.Prelude.{◌==◌, ◌&&◌, nat_lt, nat_le}
+use Rattle.std.proofs.Common.{◌≡◌, ℕ, ◌+◌, ◌*◌, ◌/◌, ◌<◌, ◌≤◌, Bool, true, false, if◌then◌else◌, List, ◌++◌, length, Option, Some, None, refl, sym, ap, ◌∙◌, subst, arith}
+use Rattle.std.specs.Prelude.{◌==◌, ◌&&◌, nat_lt}
 use Rattle.std.proofs.lemmas.Bool.Decides.{nat_tests}
 use Rattle.dx_types.specs.declared.shape.Form.{Form}
 use Rattle.dx_types.specs.declared.shape.Form.TheVariants.{Raw, Structured, Typed}
@@ -24,7 +24,7 @@ use Rattle.spirv_emit.specs.declared.piece.Piece.{Piece}
 use Rattle.spirv_emit.specs.declared.piece.Piece.TheVariants.{Assign}
 use Rattle.spirv_emit.specs.Layout.{Layout}
 use Rattle.spirv_emit.specs.Numbers.{has, own_numbers}
-use Rattle.spirv_emit.specs.Lower.{nought, calculation, same, result, each_masked, taken, binding_of, may_reach, inside_by, place_by, reach, missing, spot, load_piece, loads, store_piece, stores, atomic_piece, atomics}
+use Rattle.spirv_emit.specs.Lower.{nought, same, result, each_masked, taken, binding_of, may_reach, inside_by, place_by, reach, missing, spot, load_piece, loads, store_piece, stores, atomics}
 use Rattle.spirv_emit.specs.Frames.{Frame, leaf_word, pieces_done}
 use Rattle.spirv_emit.proofs.Holds.{Pool, LeafFits}
 use Rattle.spirv_emit.proofs.Calculations.{CalculationFits}

@@ -1,5 +1,5 @@
 -- The pieces of each instruction and test of a good shader do what these do.
-use Rattle.std.proofs.Common.{◌≡◌, ◌≢◌, ℕ, ◌+◌, ◌*◌, ◌/◌, ◌%◌, ◌^◌, ◌<◌, Bool, true, false, if◌then◌else◌, ⊎_elim, List, [], ◌∷◌, ◌++◌, Option, Some, None, refl, sym, ap, ◌∙◌, subst, arith}
+use Rattle.std.proofs.Common.{◌≡◌, ◌≢◌, ℕ, ◌+◌, ◌*◌, ◌/◌, ◌%◌, ◌^◌, ◌<◌, Bool, true, false, if◌then◌else◌, ⊎_elim, List, [], ◌∷◌, ◌++◌, Option, Some, None, refl, sym, ap, ◌∙◌, subst}
 use Rattle.std.specs.Prelude.{◌==◌, slice_index, slice_index_or, flat_map, IsSome}
 use Rattle.std.proofs.Math.Dec.{eqb}
 use Rattle.std.proofs.Math.Nat.{zero-div}
@@ -30,7 +30,8 @@ use Rattle.spirv_emit.proofs.Plainly.{TargetHas}
 use Rattle.spirv_emit.proofs.Fitting.{MaybeHave, SourcesFit}
 use Rattle.spirv_emit.proofs.Testing.{MaybeInPlace}
 use Rattle.spirv_emit.proofs.Whole.{Has, has_id, has_append, own_in, pool_of}
-use Rattle.spirv_emit.proofs.Instructions.{turns_kept, ViewFits}
+use Rattle.spirv_emit.proofs.Keeping.{instr_keeps}
+use Rattle.spirv_emit.proofs.Instructions.{ViewFits}
 use Rattle.spirv_emit.proofs.Doing.{instr_does, test_does}
 use Rattle.spirv_emit.proofs.Numbered.{has_first, has_behind, has_with, Among, among_first, among_later, among_index, source_among, declared_here}
 
@@ -131,7 +132,7 @@ module _ (p : Program) (good : IsGood p) (ids : Ids) (three_ids : ThreeIds ids) 
   body_case : (b : Body) → Fits p.declared p.temps b → Among numbers (body_numbers b) → BodyDoes at In pool ids p.temps p.declared b
   body_case End fits h = tt
   body_case (Plain i rest) fits h =
-      (instr_case i fits.0 (among_first numbers (instr_numbers i) (body_numbers rest) h), λ s. turns_kept p.declared ids i s, body_case rest fits.1 (among_later numbers (instr_numbers i) (body_numbers rest) h))
+      (instr_case i fits.0 (among_first numbers (instr_numbers i) (body_numbers rest) h), λ s. (instr_keeps p.declared ids i s).turns, body_case rest fits.1 (among_later numbers (instr_numbers i) (body_numbers rest) h))
   body_case (If t first second rest) fits h =
       let a = body_numbers first in
       let b = body_numbers second in

@@ -1,7 +1,7 @@
 -- The pieces of an atomic leave the new word in the view, and the old one in the destination.
-use Rattle.std.proofs.Common.{◌≡◌, ◌≢◌, ℕ, zero, suc, ◌+◌, ◌*◌, ◌<◌, ◌≤◌, Bool, true, false, if◌then◌else◌, List, [], ◌∷◌, ◌++◌, length, Option, Some, None, refl, sym, ap, ◌∙◌, subst, arith}
-use Rattle.std.specs.Prelude.{◌==◌, slice_index, slice_index_or, slice_set}
-use Rattle.std.proofs.lemmas.Bool.{eq-eqb, ne_eqb}
+use Rattle.std.proofs.Common.{◌≡◌, ℕ, ◌<◌, ◌≤◌, Bool, true, false, if◌then◌else◌, List, length, Option, Some, None, refl, sym, ap, ◌∙◌, subst, arith}
+use Rattle.std.specs.Prelude.{slice_index}
+use Rattle.std.proofs.lemmas.Bool.{ne_eqb}
 use Rattle.shader_model.specs.declared.ids.Ids.{Ids}
 use Rattle.shader_model.specs.declared.tree.Declared.{Declared}
 use Rattle.shader_model.specs.declared.tree.Target.{Target}

@@ -1,5 +1,5 @@
 -- The pieces of an instruction, and those of a test, do what these do.
-use Rattle.std.proofs.Common.{◌≡◌, ℕ, ◌+◌, ◌*◌, ◌<◌, Bool, true, false, if◌then◌else◌, List, [], ◌∷◌, ◌++◌, Option, Some, None, refl, sym, ap, ◌∙◌, subst, arith}
+use Rattle.std.proofs.Common.{◌≡◌, ℕ, ◌+◌, ◌*◌, ◌<◌, Bool, true, false, if◌then◌else◌, List, [], ◌∷◌, ◌++◌, Option, Some, None, refl, arith}
 use Rattle.std.specs.Prelude.{◌==◌, slice_index, slice_index_or}
 use Rattle.std.proofs.lemmas.Bool.{eqb-true}
 use Rattle.shader_model.specs.declared.ids.Ids.{Ids}
@@ -21,7 +21,7 @@ use Rattle.spirv_emit.specs.Layout.{Layout, bindings}
 use Rattle.spirv_emit.specs.Numbers.{has, own_numbers}
 use Rattle.spirv_emit.specs.Lower as lower
 use Rattle.spirv_emit.specs.Lower.{nought, calculation, fetched, fetch, fetches, all_fetches, leaf_of, temporary, done_pieces, instr_pieces, test_pieces, test_calculation}
-use Rattle.spirv_emit.specs.Frames.{Frame, pieces_done}
+use Rattle.spirv_emit.specs.Frames.{Frame}
 use Rattle.spirv_emit.proofs.Holds.{Pool}
 use Rattle.spirv_emit.proofs.Pieces.{PieceFits, PiecesFit}
 use Rattle.spirv_emit.proofs.Following.{Shows}
@@ -31,7 +31,8 @@ use Rattle.spirv_emit.proofs.Writing.{then_pieces}
 use Rattle.spirv_emit.proofs.Plainly.{TargetHas}
 use Rattle.spirv_emit.proofs.Fitting.{calculation_fits, WordsHave, MaybeHave, SourcesFit, leaf_fits, append_fits}
 use Rattle.spirv_emit.proofs.Testing.{InPlace, MaybeInPlace, test_tells, all_fetches_do}
-use Rattle.spirv_emit.proofs.Instructions.{turns_kept, ViewFits, instruction_does}
+use Rattle.spirv_emit.proofs.Keeping.{instr_keeps}
+use Rattle.spirv_emit.proofs.Instructions.{ViewFits, instruction_does}
 
 module _ (at : Layout) (Has : ℕ → Type 0) (pool : Pool at Has) (ids : Ids) (own : (v : ℕ) → has own_numbers v ≡ true → Has v) (ds : List Declared) (temps : ℕ) (many : at.variables ≡ 25 + 4 * temps) (three_ids : ThreeIds ids) where
   abbrev Fit : Piece → Type 0
@@ -104,7 +105,7 @@ module _ (at : Layout) (Has : ℕ → Type 0) (pool : Pool at Has) (ids : Ids) (
         fits = both_fit (all_fetches i) done_by fetched_fit p.fits;
         does = then_pieces ids (all_fetches i) done_by f a.frame p.frame a.does p.does;
         shows = p.shows;
-        turns = turns_kept ds ids i s;
+        turns = (instr_keeps ds ids i s).turns;
       }
 
   -- ## Tests

@@ -1,26 +1,22 @@
 -- The pieces of each instruction, behind what it takes from constant buffers, do what the instruction does.
 use Rattle.std.proofs.Common.{◌≡◌, ℕ, ◌+◌, ◌*◌, ◌/◌, ◌<◌, Bool, true, false, not, if◌then◌else◌, List, [], ◌∷◌, Option, Some, None, refl, sym, ap, ◌∙◌, subst, arith}
-use Rattle.std.specs.Prelude.{◌==◌, ◌&&◌, nat_lt, nat_le, count_by, is_some, slice_index, slice_index_or}
+use Rattle.std.specs.Prelude.{◌==◌, ◌&&◌, nat_lt, nat_le, count_by, filter, is_some, slice_index}
 use Rattle.shader_model.specs.declared.ids.Ids.{Ids}
 use Rattle.shader_model.specs.declared.tree.Declared.{Declared}
 use Rattle.shader_model.specs.declared.tree.Target.{Target}
 use Rattle.shader_model.specs.declared.tree.SlotUse.{SlotUse}
 use Rattle.shader_model.specs.declared.tree.Instr.{Instr}
 use Rattle.shader_model.specs.declared.opcode.Row.{Row}
-use Rattle.shader_model.specs.declared.opcode.Access.{Access}
-use Rattle.shader_model.specs.declared.opcode.Opcode.{Opcode}
-use Rattle.shader_model.specs.declared.opcode.Opcode.TheVariants as op
 use Rattle.shader_model.specs.Opcodes.{kinds, rows, row_of}
 use Rattle.shader_model.specs.Fields.{used_as}
 use Rattle.shader_model.specs.Faults.{takes_slot, takes_parameter}
-use Rattle.shader_model.specs.Good.{MaybeFits, SlotFits, is_slot_kind, HasOperands}
+use Rattle.shader_model.specs.Good.{MaybeFits, SlotFits, is_destination_kind, is_slot_kind, HasOperands}
 use Rattle.shader_model.specs.Invocation as model
-use Rattle.shader_model.specs.Invocation.{State, View, view_by, view_of, with_target, with_view, load, store, change, exchanged, atomic, done_by, done_with, done}
+use Rattle.shader_model.specs.Invocation.{State, View, view_by, view_of, with_target, load, store, change, exchanged, atomic, done_by, done_with, done}
 use Rattle.spirv_words.specs.declared.code.AtomicCode.{AtomicCode}
 use Rattle.spirv_words.specs.declared.code.AtomicCode.TheVariants as atomic_code
 use Rattle.spirv_words.specs.Meaning.Values.{left_by}
 use Rattle.spirv_words.specs.Meaning.Bindings.{words_at, with_word}
-use Rattle.spirv_emit.specs.declared.piece.Leaf.{Leaf}
 use Rattle.spirv_emit.specs.declared.piece.Action.{Action}
 use Rattle.spirv_emit.specs.declared.piece.Action.TheVariants.{Change, Swap}
 use Rattle.spirv_emit.specs.declared.piece.Piece.{Piece}
@@ -45,93 +41,26 @@ and_first : (a b : Bool) → (a && b) ≡ true → a ≡ true
 and_first true b e = refl
 and_first false b e = cc
 
--- ## An instruction leaves the turns
+-- ## Rows
 
-with_view_turns : (t : Bool) (s s' : State) → s'.turns ≡ s.turns → (if t then s' else s).turns ≡ s.turns
-with_view_turns true s s' e = e
-with_view_turns false s s' e = refl
+-- a fact that only the rows of a test have to show
+each_where : (P : Row → ℕ → Type 0) (test : Row → Bool) (rs : List Row) → ((r : Row) → test r ≡ false → P r r.number) → EachRow P (filter test rs) → EachRow P rs
+each_where P test [] other h = tt
+each_where P test (r ∷ rs) other h = by_test (test r) refl h (each_where P test rs other)
+  where
+    by_test : (t : Bool) → test r ≡ t → EachRow P (if t then r ∷ filter test rs else filter test rs) → (EachRow P (filter test rs) → EachRow P rs) → EachRow P (r ∷ rs)
+    by_test true e h later = (h.0, later h.1)
+    by_test false e h later = (other r e, later h)
 
-load_turns : (v : Option View) (x y : ℕ) (i : Instr) (s : State) → (load v x y i s).turns ≡ s.turns
-load_turns None x y i s = refl
-load_turns (Some v) x y i s = refl
+module _ {A : Type 0} where
+  neither : (a b : Bool) → (not a && b) ≡ false → a ≡ false → b ≡ true → A
+  neither true b e ea eb = cc
+  neither false true e ea eb = cc
+  neither false false e ea eb = cc
 
-store_turns : (v : Option View) (x y : ℕ) (word : ℕ → ℕ) (i : Instr) (s : State) → (store v x y word i s).turns ≡ s.turns
-store_turns None x y word i s = refl
-store_turns (Some v) x y word i s = with_view_turns v.name.writable s _ refl
-
-change_turns : (v : Option View) (x y : ℕ) (new : ℕ → ℕ) (i : Instr) (s : State) → (change v x y new i s).turns ≡ s.turns
-change_turns None x y new i s = refl
-change_turns (Some v) x y new i s = with_view_turns v.name.writable s _ refl
-
-turns_by : (o : Opcode) (ds : List Declared) (ids : Ids) (i : Instr) (s : State) → (done_by o ds ids i s).turns ≡ s.turns
-turns_by op.Mov ds ids i s = refl
-turns_by op.Movc ds ids i s = refl
-turns_by op.Iadd ds ids i s = refl
-turns_by op.Ineg ds ids i s = refl
-turns_by op.Imad ds ids i s = refl
-turns_by op.Imul ds ids i s = refl
-turns_by op.Umul ds ids i s = refl
-turns_by op.Udiv ds ids i s = refl
-turns_by op.Imin ds ids i s = refl
-turns_by op.Imax ds ids i s = refl
-turns_by op.Umin ds ids i s = refl
-turns_by op.Umax ds ids i s = refl
-turns_by op.And ds ids i s = refl
-turns_by op.Or ds ids i s = refl
-turns_by op.Xor ds ids i s = refl
-turns_by op.Not ds ids i s = refl
-turns_by op.Ishl ds ids i s = refl
-turns_by op.Ishr ds ids i s = refl
-turns_by op.Ushr ds ids i s = refl
-turns_by op.Ieq ds ids i s = refl
-turns_by op.Ine ds ids i s = refl
-turns_by op.Ige ds ids i s = refl
-turns_by op.Ilt ds ids i s = refl
-turns_by op.Uge ds ids i s = refl
-turns_by op.Ult ds ids i s = refl
-turns_by op.Ubfe ds ids i s = refl
-turns_by op.Ibfe ds ids i s = refl
-turns_by op.Bfi ds ids i s = refl
-turns_by op.Bfrev ds ids i s = refl
-turns_by op.Countbits ds ids i s = refl
-turns_by op.LdRaw ds ids i s = load_turns (view_of ds i.slot) (model.source ids s i 0 0) 0 i s
-turns_by op.StoreRaw ds ids i s = store_turns (view_of ds i.slot) (model.source ids s i 0 0) 0 (model.source ids s i 1) i s
-turns_by op.LdStructured ds ids i s = load_turns (view_of ds i.slot) (model.source ids s i 0 0) (model.source ids s i 1 0) i s
-turns_by op.StoreStructured ds ids i s = store_turns (view_of ds i.slot) (model.source ids s i 0 0) (model.source ids s i 1 0) (model.source ids s i 2) i s
-turns_by op.LdTyped ds ids i s = load_turns (view_of ds i.slot) (model.source ids s i 0 0) 0 i s
-turns_by op.StoreTyped ds ids i s = store_turns (view_of ds i.slot) (model.source ids s i 0 0) 0 (model.source ids s i 1) i s
-turns_by op.AtomicIadd ds ids i s = change_turns (view_of ds i.slot) _ _ _ i s
-turns_by op.AtomicAnd ds ids i s = change_turns (view_of ds i.slot) _ _ _ i s
-turns_by op.AtomicOr ds ids i s = change_turns (view_of ds i.slot) _ _ _ i s
-turns_by op.AtomicXor ds ids i s = change_turns (view_of ds i.slot) _ _ _ i s
-turns_by op.AtomicImin ds ids i s = change_turns (view_of ds i.slot) _ _ _ i s
-turns_by op.AtomicImax ds ids i s = change_turns (view_of ds i.slot) _ _ _ i s
-turns_by op.AtomicUmin ds ids i s = change_turns (view_of ds i.slot) _ _ _ i s
-turns_by op.AtomicUmax ds ids i s = change_turns (view_of ds i.slot) _ _ _ i s
-turns_by op.AtomicExch ds ids i s = change_turns (view_of ds i.slot) _ _ _ i s
-turns_by op.AtomicCmpExch ds ids i s = change_turns (view_of ds i.slot) _ _ _ i s
-turns_by op.IfNz ds ids i s = refl
-turns_by op.IfZ ds ids i s = refl
-turns_by op.Else ds ids i s = refl
-turns_by op.Endif ds ids i s = refl
-turns_by op.Loop ds ids i s = refl
-turns_by op.Endloop ds ids i s = refl
-turns_by op.Break ds ids i s = refl
-turns_by op.BreakNz ds ids i s = refl
-turns_by op.BreakZ ds ids i s = refl
-turns_by op.Continue ds ids i s = refl
-turns_by op.ContinueNz ds ids i s = refl
-turns_by op.ContinueZ ds ids i s = refl
-turns_by op.Ret ds ids i s = refl
-turns_by op.RetNz ds ids i s = refl
-turns_by op.RetZ ds ids i s = refl
-
-turns_with : (r : Option Row) (ds : List Declared) (ids : Ids) (i : Instr) (s : State) → (done_with r ds ids i s).turns ≡ s.turns
-turns_with None ds ids i s = refl
-turns_with (Some r) ds ids i s = turns_by r.name ds ids i s
-
-pub turns_kept : (ds : List Declared) (ids : Ids) (i : Instr) (s : State) → (done ds ids i s).turns ≡ s.turns
-turns_kept ds ids i s = turns_with (row_of i.opcode) ds ids i s
+  unless : (a : Bool) → not a ≡ false → a ≡ false → A
+  unless true e ea = cc
+  unless false e ea = cc
 
 -- ## Which instructions have slots
 
@@ -236,7 +165,56 @@ module _ (at : Layout) (Has : ℕ → Type 0) (pool : Pool at Has) (ids : Ids) (
 
     each_reaches : EachRow Reaches rows
     unfolding Reaches
-    each_reaches = (λ e a b u d v t w. cc, (λ e a b u d v t w. cc, (λ e a b u d v t w. cc, (λ e a b u d v t w. cc, (λ e a b u d v t w. cc, (λ e a b u d v t w. cc, (λ e a b u d v t w. cc, (λ e a b u d v t w. cc, (λ e a b u d v t w. cc, (λ e a b u d v t w. cc, (λ e a b u d v t w. cc, (λ e a b u d v t w. cc, (λ e a b u d v t w. cc, (λ e a b u d v t w. cc, (λ e a b u d v t w. cc, (λ e a b u d v t w. cc, (λ e a b u d v t w. cc, (λ e a b u d v t w. cc, (λ e a b u d v t w. cc, (λ e a b u d v t w. cc, (λ e a b u d v t w. cc, (λ e a b u d v t w. cc, (λ e a b u d v t w. cc, (λ e a b u d v t w. cc, (λ e a b u d v t w. cc, (λ e a b u d v t w. cc, (λ e a b u d v t w. cc, (λ e a b u d v t w. cc, (λ e a b u d v t w. cc, (λ e a b u d v t w. cc, (λ e a b u d v t w. by_opcode 48 u d e _ (load_plain u d v w), (λ e a b u d v t w. by_opcode 49 u d e _ (store_plain u d v w (and_first _ _ t)), (λ e a b u d v t w. by_opcode 50 u d e _ (load_offset u d v w), (λ e a b u d v t w. by_opcode 51 u d e _ (store_offset u d v w (and_first _ _ t)), (λ e a b u d v t w. by_opcode 52 u d e _ (load_plain u d v w), (λ e a b u d v t w. by_opcode 53 u d e _ (store_plain u d v w (and_first _ _ t)), (λ e a b u d v t w. by_opcode 56 u d e _ (change_row atomic_code.Add u d v w (and_first _ _ t)), (λ e a b u d v t w. by_opcode 57 u d e _ (change_row atomic_code.And u d v w (and_first _ _ t)), (λ e a b u d v t w. by_opcode 58 u d e _ (change_row atomic_code.Or u d v w (and_first _ _ t)), (λ e a b u d v t w. by_opcode 59 u d e _ (change_row atomic_code.Xor u d v w (and_first _ _ t)), (λ e a b u d v t w. by_opcode 60 u d e _ (change_row atomic_code.SignedMin u d v w (and_first _ _ t)), (λ e a b u d v t w. by_opcode 61 u d e _ (change_row atomic_code.SignedMax u d v w (and_first _ _ t)), (λ e a b u d v t w. by_opcode 62 u d e _ (change_row atomic_code.UnsignedMin u d v w (and_first _ _ t)), (λ e a b u d v t w. by_opcode 63 u d e _ (change_row atomic_code.UnsignedMax u d v w (and_first _ _ t)), (λ e a b u d v t w. by_opcode 64 u d e _ (change_row atomic_code.Exchange u d v w (and_first _ _ t)), (λ e a b u d v t w. by_opcode 65 u d e _ (swap_row u d v w (and_first _ _ t)), (λ e a b u d v t w. cc, (λ e a b u d v t w. cc, (λ e a b u d v t w. cc, (λ e a b u d v t w. cc, (λ e a b u d v t w. cc, (λ e a b u d v t w. cc, (λ e a b u d v t w. cc, (λ e a b u d v t w. cc, (λ e a b u d v t w. cc, (λ e a b u d v t w. cc, (λ e a b u d v t w. cc, (λ e a b u d v t w. cc, (λ e a b u d v t w. cc, (λ e a b u d v t w. cc, (λ e a b u d v t w. cc, tt)))))))))))))))))))))))))))))))))))))))))))))))))))))))))))))
+    each_reaches =
+        each_where Reaches (λ r. not (nat_le r.number 45) && nat_le r.number 65) rows (λ r other. λ e a b u d v t w. neither (nat_le r.number 45) (nat_le r.number 65) other a b) (
+          λ e a b u d v t w. by_opcode 48 u d e _ (load_plain u d v w),
+          (
+            λ e a b u d v t w. by_opcode 49 u d e _ (store_plain u d v w (and_first _ _ t)),
+            (
+              λ e a b u d v t w. by_opcode 50 u d e _ (load_offset u d v w),
+              (
+                λ e a b u d v t w. by_opcode 51 u d e _ (store_offset u d v w (and_first _ _ t)),
+                (
+                  λ e a b u d v t w. by_opcode 52 u d e _ (load_plain u d v w),
+                  (
+                    λ e a b u d v t w. by_opcode 53 u d e _ (store_plain u d v w (and_first _ _ t)),
+                    (
+                      λ e a b u d v t w. by_opcode 56 u d e _ (change_row atomic_code.Add u d v w (and_first _ _ t)),
+                      (
+                        λ e a b u d v t w. by_opcode 57 u d e _ (change_row atomic_code.And u d v w (and_first _ _ t)),
+                        (
+                          λ e a b u d v t w. by_opcode 58 u d e _ (change_row atomic_code.Or u d v w (and_first _ _ t)),
+                          (
+                            λ e a b u d v t w. by_opcode 59 u d e _ (change_row atomic_code.Xor u d v w (and_first _ _ t)),
+                            (
+                              λ e a b u d v t w. by_opcode 60 u d e _ (change_row atomic_code.SignedMin u d v w (and_first _ _ t)),
+                              (
+                                λ e a b u d v t w. by_opcode 61 u d e _ (change_row atomic_code.SignedMax u d v w (and_first _ _ t)),
+                                (
+                                  λ e a b u d v t w. by_opcode 62 u d e _ (change_row atomic_code.UnsignedMin u d v w (and_first _ _ t)),
+                                  (
+                                    λ e a b u d v t w. by_opcode 63 u d e _ (change_row atomic_code.UnsignedMax u d v w (and_first _ _ t)),
+                                    (
+                                      λ e a b u d v t w. by_opcode 64 u d e _ (change_row atomic_code.Exchange u d v w (and_first _ _ t)),
+                                      (
+                                        λ e a b u d v t w. by_opcode 65 u d e _ (swap_row u d v w (and_first _ _ t)),
+                                        tt,
+                                      ),
+                                    ),
+                                  ),
+                                ),
+                              ),
+                            ),
+                          ),
+                        ),
+                      ),
+                    ),
+                  ),
+                ),
+              ),
+            ),
+          ),
+        )
 
     reaches_view : (r : Row) → row_of i.opcode ≡ Some r → nat_le r.number 45 ≡ false → nat_le r.number 65 ≡ true → (u : SlotUse) (d : Declared) → Names u d → takes_slot r.access u.writable (Some d) ≡ true → ViewFits u d → Do (memory_pieces u d i) (done_by r.name ds ids i s)
     unfolding row_of Reaches
@@ -244,21 +222,24 @@ module _ (at : Layout) (Has : ℕ → Type 0) (pool : Pool at Has) (ids : Ids) (
 
     -- ## Those that shape the blocks do nothing here
 
+    Shapes : Row → ℕ → Type 0
+    Shapes r n = nat_le r.number 65 ≡ false → (done_by r.name ds ids i s ≡ s) × (nat_lt 0 (count_by is_destination_kind (kinds r.layout)) ≡ false) × (nat_lt 1 (count_by is_destination_kind (kinds r.layout)) ≡ false)
+
+    each_shapes : EachRow Shapes rows
+    unfolding Shapes
+    each_shapes = each_where Shapes (λ r. not (nat_le r.number 65)) rows (λ r other high. unless (nat_le r.number 65) other high)
+        (λ high. (refl, refl, refl), (λ high. (refl, refl, refl), (λ high. (refl, refl, refl), (λ high. (refl, refl, refl), (λ high. (refl, refl, refl), (λ high. (refl, refl, refl), (λ high. (refl, refl, refl), (λ high. (refl, refl, refl), (λ high. (refl, refl, refl), (λ high. (refl, refl, refl), (λ high. (refl, refl, refl), (λ high. (refl, refl, refl), (λ high. (refl, refl, refl), (λ high. (refl, refl, refl), (λ high. (refl, refl, refl), tt)))))))))))))))
+
     nothing : i.first ≡ None → i.second ≡ None → s ≡ both ds ids s i
     nothing e1 e2 =
         ap (λ (t : Option Target). record s { temps = with_target t (words (first_formula i.opcode) ids s i) s.temps }) (sym e1)
         ∙ ap (λ (t : Option Target). record s { temps = with_target t (words (second_formula i.opcode) ids s i) (with_target i.first (words (first_formula i.opcode) ids s i) s.temps) }) (sym e2)
 
-    Shapes : Row → ℕ → Type 0
-    Shapes r n = i.opcode ≡ n → HasOperands (kinds r.layout) i → nat_le r.number 65 ≡ false → done_by r.name ds ids i s ≡ both ds ids s i
-
-    each_shapes : EachRow Shapes rows
-    unfolding Shapes
-    each_shapes = (λ e h c. cc, (λ e h c. cc, (λ e h c. cc, (λ e h c. cc, (λ e h c. cc, (λ e h c. cc, (λ e h c. cc, (λ e h c. cc, (λ e h c. cc, (λ e h c. cc, (λ e h c. cc, (λ e h c. cc, (λ e h c. cc, (λ e h c. cc, (λ e h c. cc, (λ e h c. cc, (λ e h c. cc, (λ e h c. cc, (λ e h c. cc, (λ e h c. cc, (λ e h c. cc, (λ e h c. cc, (λ e h c. cc, (λ e h c. cc, (λ e h c. cc, (λ e h c. cc, (λ e h c. cc, (λ e h c. cc, (λ e h c. cc, (λ e h c. cc, (λ e h c. cc, (λ e h c. cc, (λ e h c. cc, (λ e h c. cc, (λ e h c. cc, (λ e h c. cc, (λ e h c. cc, (λ e h c. cc, (λ e h c. cc, (λ e h c. cc, (λ e h c. cc, (λ e h c. cc, (λ e h c. cc, (λ e h c. cc, (λ e h c. cc, (λ e h c. cc, (λ e h c. nothing (none_of i.first h.first) (none_of i.second h.second), (λ e h c. nothing (none_of i.first h.first) (none_of i.second h.second), (λ e h c. nothing (none_of i.first h.first) (none_of i.second h.second), (λ e h c. nothing (none_of i.first h.first) (none_of i.second h.second), (λ e h c. nothing (none_of i.first h.first) (none_of i.second h.second), (λ e h c. nothing (none_of i.first h.first) (none_of i.second h.second), (λ e h c. nothing (none_of i.first h.first) (none_of i.second h.second), (λ e h c. nothing (none_of i.first h.first) (none_of i.second h.second), (λ e h c. nothing (none_of i.first h.first) (none_of i.second h.second), (λ e h c. nothing (none_of i.first h.first) (none_of i.second h.second), (λ e h c. nothing (none_of i.first h.first) (none_of i.second h.second), (λ e h c. nothing (none_of i.first h.first) (none_of i.second h.second), (λ e h c. nothing (none_of i.first h.first) (none_of i.second h.second), (λ e h c. nothing (none_of i.first h.first) (none_of i.second h.second), (λ e h c. nothing (none_of i.first h.first) (none_of i.second h.second), tt)))))))))))))))))))))))))))))))))))))))))))))))))))))))))))))
-
     shapes : (r : Row) → row_of i.opcode ≡ Some r → HasOperands (kinds r.layout) i → nat_le r.number 65 ≡ false → done_by r.name ds ids i s ≡ both ds ids s i
     unfolding row_of Shapes
-    shapes r e o high = row_is Shapes i.opcode rows r e each_shapes refl o high
+    shapes r e o high =
+        let q = row_is Shapes i.opcode rows r e each_shapes high in
+        q.0 ∙ nothing (none_of i.first (o.first ∙ q.1)) (none_of i.second (o.second ∙ q.2))
 
     -- ## Each instruction
 

@@ -39,3 +39,5 @@ mod Instructions
 mod Numbered
 mod Bodies
 mod Modules
+mod Keeping
+mod Dispatching

@@ -1,24 +1,21 @@
 -- A load leaves the words of a view in the variables of results.
-use Rattle.std.proofs.Common.{◌≡◌, ◌≢◌, ℕ, zero, suc, ◌+◌, ◌*◌, ◌/◌, ◌<◌, ◌≤◌, Bool, true, false, if◌then◌else◌, List, [], ◌∷◌, ◌++◌, length, Option, Some, None, refl, sym, ap, ◌∙◌, subst, arith}
-use Rattle.std.specs.Prelude.{◌==◌, ◌&&◌, nat_lt, slice_index}
-use Rattle.std.proofs.lemmas.Bool.{lt-ltb, ltb-true, ltb-false, le-ltb, eqb-true}
+use Rattle.std.proofs.Common.{◌≡◌, ℕ, ◌+◌, ◌*◌, ◌/◌, ◌<◌, ◌≤◌, Bool, true, false, if◌then◌else◌, List, [], ◌++◌, length, Option, Some, None, refl, sym, ap, ◌∙◌, arith}
+use Rattle.std.specs.Prelude.{◌==◌, ◌&&◌, nat_lt}
+use Rattle.std.proofs.lemmas.Bool.{lt-ltb, ltb-false, le-ltb}
 use Rattle.dx_types.specs.declared.shape.Form.{Form}
 use Rattle.dx_types.specs.declared.shape.Form.TheVariants.{Raw, Structured, Typed}
 use Rattle.shader_model.specs.declared.ids.Ids.{Ids}
-use Rattle.shader_model.specs.declared.tree.Declared.{Declared}
 use Rattle.shader_model.specs.Words.{bit}
 use Rattle.shader_model.specs.Invocation as model
-use Rattle.spirv_words.specs.Meaning.Values.{Value, Word}
 use Rattle.spirv_words.specs.Meaning.Bindings.{words_at}
 use Rattle.spirv_emit.specs.declared.formula.Formula.TheVariants as formula
 use Rattle.spirv_emit.specs.declared.piece.Leaf.TheVariants.{Number, Length}
-use Rattle.spirv_emit.specs.declared.piece.Calculation.{Calculation}
 use Rattle.spirv_emit.specs.declared.piece.Action.TheVariants.{Fetch}
 use Rattle.spirv_emit.specs.declared.piece.Piece.{Piece}
 use Rattle.spirv_emit.specs.declared.piece.Piece.TheVariants.{Assign, Reach}
 use Rattle.spirv_emit.specs.declared.piece.Spot.{Spot}
 use Rattle.spirv_emit.specs.Lower.{nought, calculation, same, result, only_if, each_masked, may_reach, inside_by, place_by, reach, missing, load_piece}
-use Rattle.spirv_emit.specs.Frames.{Frame, with_variable, leaf_word, calculated, assigned, then_frame, piece_done, pieces_done}
+use Rattle.spirv_emit.specs.Frames.{Frame, with_variable, leaf_word, assigned, then_frame, piece_done, pieces_done}
 use Rattle.spirv_emit.proofs.Placing.{typed_one_gives}
 use Rattle.spirv_emit.proofs.Reaching.{done_at, by_form, reach_done}
 use Rattle.spirv_emit.proofs.Writing.{then_pieces, put_if, put_masked, put_keeps}

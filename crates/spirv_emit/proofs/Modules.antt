@@ -1,5 +1,5 @@
 -- The words of each good shader's module mean the shader, and have its group.
-use Rattle.std.proofs.Common.{◌≡◌, ℕ, zero, suc, List, [], ◌∷◌, length, Some, refl, sym, ap, ◌∙◌, subst, arith}
+use Rattle.std.proofs.Common.{◌≡◌, ℕ, List, [], ◌∷◌, length, Some, refl, ap, ◌∙◌, subst, arith}
 use Rattle.std.specs.Prelude.{slice_index, is_some}
 use Rattle.shader_model.specs.declared.ids.Ids.{Ids}
 use Rattle.shader_model.specs.Shader.{Program}
@@ -13,7 +13,6 @@ use Rattle.spirv_words.specs.Meaning.ModuleDispatch.{local_size, group_of, InRan
 use Rattle.spirv_emit.specs.Module.{module_ops, module_of}
 use Rattle.spirv_emit.proofs.Spelling.{reads_back}
 use Rattle.spirv_emit.proofs.Spelled.{module_spelled}
-use Rattle.spirv_emit.proofs.Leaving.{ThreeIds}
 use Rattle.spirv_emit.proofs.Meant.{module_means}
 use Rattle.spirv_emit.proofs.Bodies.{body_does}
 

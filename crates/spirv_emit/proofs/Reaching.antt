@@ -1,6 +1,6 @@
 -- An access to a view reaches the word that the view names, or misses it.
-use Rattle.std.proofs.Common.{◌≡◌, ℕ, zero, suc, ◌+◌, ◌-◌, ◌*◌, ◌/◌, ◌^◌, ◌<◌, ◌≤◌, Bool, true, false, if◌then◌else◌, List, [], ◌∷◌, length, Option, Some, None, refl, sym, ap, ◌∙◌, arith}
-use Rattle.std.specs.Prelude.{◌==◌, ◌&&◌, nat_lt}
+use Rattle.std.proofs.Common.{◌≡◌, ℕ, suc, ◌+◌, ◌*◌, ◌/◌, ◌<◌, ◌≤◌, Bool, true, false, if◌then◌else◌, length, Option, Some, None, refl, sym, ap, ◌∙◌, arith}
+use Rattle.std.specs.Prelude.{◌&&◌, nat_lt}
 use Rattle.std.proofs.Math.Nat.{div-mul-le_self, mul-le-mul}
 use Rattle.std.proofs.lemmas.Bool.{lt-ltb, ltb-true}
 use Rattle.dx_types.specs.declared.shape.Form.{Form}
@@ -9,13 +9,10 @@ use Rattle.shader_model.specs.declared.ids.Ids.{Ids}
 use Rattle.shader_model.specs.Invocation as model
 use Rattle.spirv_words.specs.Meaning.Values.{Value, Word, Truth}
 use Rattle.spirv_words.specs.Meaning.Bindings.{words_at}
-use Rattle.spirv_emit.specs.declared.formula.Formula.TheVariants as formula
-use Rattle.spirv_emit.specs.declared.piece.Leaf.{Leaf}
 use Rattle.spirv_emit.specs.declared.piece.Action.{Action}
 use Rattle.spirv_emit.specs.declared.piece.Spot.{Spot}
-use Rattle.spirv_emit.specs.Steps.{steps_of}
 use Rattle.spirv_emit.specs.Lower.{may_reach, inside_by, place_by, reach}
-use Rattle.spirv_emit.specs.Frames.{Frame, leaf_word, steps_value, calculated, acted, missed, acted_at, reached, piece_done}
+use Rattle.spirv_emit.specs.Frames.{Frame, leaf_word, calculated, acted, missed, acted_at, reached, piece_done}
 use Rattle.spirv_emit.proofs.Placing.{raw_tells, raw_gives, structured_tells, structured_gives, typed_tells, typed_gives}
 
 -- the word w of the element x of k words is one of n

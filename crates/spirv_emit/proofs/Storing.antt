@@ -1,5 +1,5 @@
 -- The pieces of a store leave in a view what the store leaves there.
-use Rattle.std.proofs.Common.{◌≡◌, ℕ, zero, suc, ◌+◌, ◌*◌, ◌/◌, ◌<◌, ◌≤◌, Bool, true, false, if◌then◌else◌, List, [], ◌∷◌, ◌++◌, length, Option, Some, None, refl, sym, ap, ◌∙◌, subst, arith}
+use Rattle.std.proofs.Common.{◌≡◌, ℕ, ◌+◌, ◌*◌, ◌/◌, ◌<◌, ◌≤◌, Bool, true, false, if◌then◌else◌, List, [], ◌++◌, length, Option, Some, None, refl, sym, ap, ◌∙◌, subst, arith}
 use Rattle.std.specs.Prelude.{◌==◌, ◌&&◌, nat_lt, slice_index_or, slice_set}
 use Rattle.std.proofs.lemmas.Bool.{ltb-true, ltb-false, le-ltb}
 use Rattle.dx_types.specs.declared.shape.Form.{Form}
@@ -12,10 +12,10 @@ use Rattle.shader_model.specs.declared.tree.Instr.{Instr}
 use Rattle.shader_model.specs.Words.{bit, picked}
 use Rattle.shader_model.specs.Invocation as model
 use Rattle.shader_model.specs.Invocation.{Slots, words_in, stored}
-use Rattle.spirv_words.specs.Meaning.Bindings.{words_at, with_word}
+use Rattle.spirv_words.specs.Meaning.Bindings.{with_word}
 use Rattle.spirv_emit.specs.declared.piece.Vector.TheVariants.{Group, Thread, Global}
 use Rattle.spirv_emit.specs.declared.piece.Leaf.{Leaf}
-use Rattle.spirv_emit.specs.declared.piece.Leaf.TheVariants.{Number, Variable, Component, Flattened}
+use Rattle.spirv_emit.specs.declared.piece.Leaf.TheVariants.{Component}
 use Rattle.spirv_emit.specs.declared.piece.Action.TheVariants.{Write}
 use Rattle.spirv_emit.specs.declared.piece.Piece.{Piece}
 use Rattle.spirv_emit.specs.Lower.{nought, leaf_of, leaf_of_some, source, temporary, fetched, only_if, binding_of, may_reach, reach, spot, store_piece, stores}

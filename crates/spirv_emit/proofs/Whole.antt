@@ -13,7 +13,7 @@ use Rattle.spirv_words.specs.Op as op
 use Rattle.spirv_words.specs.StorageClass as class
 use Rattle.spirv_words.specs.Settings as setting
 use Rattle.spirv_words.specs.Meaning.Values.{Word, At as Points, ToVariable, ToBuffer, ToLengths, ToInput}
-use Rattle.spirv_words.specs.Meaning.Bindings.{SlotsFit}
+use Rattle.spirv_words.specs.Meaning.Bindings.{words_at}
 use Rattle.spirv_words.specs.Meaning.Memory.{Memory, with_result, with_variable, outer_variable}
 use Rattle.spirv_words.specs.Meaning.ModuleMeaning.{after_label, goes_to, runs, begun as started}
 use Rattle.spirv_emit.specs.Lower.{temporary}
@@ -204,7 +204,7 @@ module _ (p : Program) (ids : Ids) (all : List Op) (longest : ℕ) (start : ℕ 
 
 -- ## The whole
 
-module _ (p : Program) (ids : Ids) (slots : Slots) (fit : SlotsFit slots) (ok : BodyDoes (layout_of p) (Has (numbers_of p)) (pool_of p) ids p.temps p.declared p.body) where
+module _ (p : Program) (ids : Ids) (slots : Slots) (small : (b : ℕ) → length (words_at slots b) ≤ 4194304) (ok : BodyDoes (layout_of p) (Has (numbers_of p)) (pool_of p) ids p.temps p.declared p.body) where
   abbrev numbers : List ℕ
   numbers = numbers_of p
 
@@ -280,7 +280,7 @@ module _ (p : Program) (ids : Ids) (slots : Slots) (fit : SlotsFit slots) (ok : 
         memory = m9;
         holds = record {
           slots = r9.slots ∙ r7.slots ∙ r6.slots;
-          words = λ x lt. words_at m9 x lt (r9.others fv (omega arith) ∙ with_same m7.variables fv (Word most_turns)) r9.set;
+          words = λ x lt. variable_words m9 x lt (r9.others fv (omega arith) ∙ with_same m7.variables fv (Word most_turns)) r9.set;
           variable_at = λ x lt. variables_at m9 x lt (r9.before fv (omega arith) ∙ with_same m7.results fv to_turns) r9.made;
           number_at = λ v h. let k = place_below v numbers h in old (at.number v) (omega arith) ∙ number_in v h m7 r7.made;
           buffers_at = λ b lt. let z : 0 + b ≡ b = omega arith in older (buffer_at b) (omega arith) ∙ ap (λ j. m6.results (buffer_at j)) (sym z) ∙ r6.made b lt ∙ ap (λ j. Some (Points (ToBuffer j))) z;
@@ -301,9 +301,9 @@ module _ (p : Program) (ids : Ids) (slots : Slots) (fit : SlotsFit slots) (ok : 
             ∙ r9.by k;
       }
     where
-      words_at : (m : Memory) (x : ℕ) → x < at.variables → m.variables at.first_variable ≡ Some (Word most_turns) → ((i : ℕ) → i < at.variables - 1 → m.variables (at.first_variable + 1 + i) ≡ Some (Word 0)) → m.variables (variable at x) ≡ Some (Word (if x == 0 then most_turns else 0))
-      words_at m zero lt first others = ap m.variables (let z : at.first_variable + 0 ≡ at.first_variable = omega arith in z) ∙ first
-      words_at m (suc i) lt first others =
+      variable_words : (m : Memory) (x : ℕ) → x < at.variables → m.variables at.first_variable ≡ Some (Word most_turns) → ((i : ℕ) → i < at.variables - 1 → m.variables (at.first_variable + 1 + i) ≡ Some (Word 0)) → m.variables (variable at x) ≡ Some (Word (if x == 0 then most_turns else 0))
+      variable_words m zero lt first others = ap m.variables (let z : at.first_variable + 0 ≡ at.first_variable = omega arith in z) ∙ first
+      variable_words m (suc i) lt first others =
           ap m.variables (let z : at.first_variable + suc i ≡ at.first_variable + 1 + i = omega arith in z)
           ∙ others i (omega arith)
           ∙ ap (λ t. Some (Word (if t then most_turns else 0))) (sym (ne_eqb (suc i) 0 (λ e. absurd (omega arith))))
@@ -324,7 +324,7 @@ module _ (p : Program) (ids : Ids) (slots : Slots) (fit : SlotsFit slots) (ok : 
     turns_left = refl;
     few = lit< tt;
     long = length-replicate (4 * p.temps) 0;
-    limited = fit.lengths;
+    limited = small;
     words = λ r c lr lc. ap (λ t. if t then most_turns else 0) (ne_eqb (temporary r c) 0 (λ e. absurd (omega arith))) ∙ sym (replicate_index (4 * p.temps) (4 * r + c));
   }
 
