@@ -46,7 +46,7 @@ module _ (ids : Ids) (u : SlotUse) (d : Declared) (writes : u.writable ≡ true)
   own : length (words_in s.slots.writes u.slot) ≤ 4194304 → Viewed u writes lt s.slots f f (words_in s.slots.writes u.slot)
   own limit = own_viewed u writes lt f s.slots sh.slots limit
 
-  -- the frame under the old word's variable
+  -- a frame that has the changed word, and is the given one but for the variable of the old word
   record Under (r : Option ℕ) (g : Frame) : Type 0 where
     frame : Frame
     is : g ≡ with_variable (result 0 0) (model.word_at ws r) frame
@@ -63,6 +63,7 @@ module _ (ids : Ids) (u : SlotUse) (d : Declared) (writes : u.writable ≡ true)
         viewed = word_viewed u writes lt s.slots f f ws i v (inside i refl) h;
       }
 
+  -- what the piece of the access does: the old word is in a variable, the new one in the view
   record OnceDone (p : Piece) : Type 0 where
     frame : Frame
     does : piece_done ids p f ≡ Some (with_variable (result 0 0) old frame)

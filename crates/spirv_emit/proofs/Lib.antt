@@ -38,6 +38,6 @@ mod Accessing
 mod Instructions
 mod Numbered
 mod Bodies
-mod Modules
+pub mod Modules
 mod Keeping
-mod Dispatching
+pub mod Dispatching

@@ -92,13 +92,14 @@ module _ (u : SlotUse) (writes : u.writable ≡ true) (lt : u.slot < 8) where
   words_are : (z : Slots) → words_at z (binding_of u) ≡ words_in z.writes u.slot
   words_are z = ap (words_at z) binding_is ∙ write_words z u.slot lt
 
-  -- the slots of a frame are others' but for the words of the view, and its variables are as they were
+  -- a frame g whose slots are z but for the words of the view, and whose variables are those of f
   pub record Viewed (z : Slots) (f g : Frame) (words : List ℕ) : Type 0 where
     pub slots : g.slots ≡ with_writes u.slot words z
     pub variables : g.variables ≡ f.variables
     pub here : words_at g.slots (binding_of u) ≡ words
     pub few : length words ≤ 4194304
 
+  -- before any store
   pub own_viewed : (f : Frame) (z : Slots) → f.slots ≡ z → length (words_in z.writes u.slot) ≤ 4194304 → Viewed z f f (words_in z.writes u.slot)
   own_viewed f z same few = record {
     slots = same ∙ ap (λ (ws : List (List ℕ)). record z { writes = ws }) (sym (set-get_or z.writes u.slot []));
@@ -107,7 +108,7 @@ module _ (u : SlotUse) (writes : u.writable ≡ true) (lt : u.slot < 8) where
     few = few;
   }
 
-  -- one word of the view more
+  -- after the store of one more word
   pub word_viewed : (z : Slots) (f g : Frame) (words : List ℕ) (i v : ℕ) → i < length words → Viewed z f g words → Viewed z f (record g { slots = with_word (binding_of u) i v g.slots }) (slice_set words i v)
   word_viewed z f g words i v inside h =
       let new = slice_set words i v in
@@ -127,6 +128,7 @@ module _ (u : SlotUse) (writes : u.writable ≡ true) (lt : u.slot < 8) where
         few = omega (arith, size, few);
       }
 
+  -- such a frame shows the state that has these words in the view
   pub viewed_shows : (temps : ℕ) (f g : Frame) (s : State) (words : List ℕ) → Shows temps f s → Viewed s.slots f g words → Shows temps g (record s { slots = with_writes u.slot words s.slots })
   viewed_shows temps f g s words h k = record {
     slots = k.slots;
