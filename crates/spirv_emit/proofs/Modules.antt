@@ -2,9 +2,10 @@
 use Rattle.std.proofs.Common.{◌≡◌, ℕ, List, [], ◌∷◌, length, Some, refl, ap, ◌∙◌, subst, arith}
 use Rattle.std.specs.Prelude.{slice_index, is_some}
 use Rattle.shader_model.specs.declared.ids.Ids.{Ids}
-use Rattle.shader_model.specs.Shader.{Program}
+use Rattle.shader_model.specs.Shader.{Program, shader_of}
 use Rattle.shader_model.specs.Good.{IsGood}
 use Rattle.shader_model.specs.Invocation.{Slots, invoked}
+use Rattle.shader_model.proofs.Goodness.{good_shader}
 use Rattle.spirv_words.specs.Words.{words_of}
 use Rattle.spirv_words.specs.FirstBad.{Reading}
 use Rattle.spirv_words.specs.Meaning.Bindings.{SlotsFit}
@@ -19,6 +20,10 @@ use Rattle.spirv_emit.proofs.Bodies.{body_does}
 -- an invocation in range, on slots of at most 16,777,216 bytes each
 pub module_means_good : (p : Program) → IsGood p → (ids : Ids) (slots : Slots) → InRange p.group ids → SlotsFit slots → module_meaning (module_of p) ids slots ≡ Some (invoked p ids slots)
 module_means_good p good ids slots range fit = module_means p ids slots fit (body_does p good ids (record { group = range.three_groups; thread = range.three_threads }))
+
+-- and so of each shader that is decoded
+pub decoded_means : (bytes : List ℕ) (p : Program) → shader_of bytes ≡ Some p → (ids : Ids) (slots : Slots) → InRange p.group ids → SlotsFit slots → module_meaning (module_of p) ids slots ≡ Some (invoked p ids slots)
+decoded_means bytes p is ids slots range fit = module_means_good p (good_shader bytes p is) ids slots range fit
 
 three_sizes : (g : List ℕ) → length g ≡ 3 → slice_index g 0 ∷ slice_index g 1 ∷ slice_index g 2 ∷ [] ≡ g
 three_sizes [] e = absurd (omega arith)
