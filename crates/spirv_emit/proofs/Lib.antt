@@ -41,3 +41,22 @@ mod Bodies
 pub mod Modules
 mod Keeping
 pub mod Dispatching
+mod Passing
+mod Straight
+mod Standing
+mod Typed
+mod Settled
+mod Wider
+mod Scope
+mod Sorts
+mod Rules
+mod Leaves
+mod Making
+mod Choosing
+mod Turning
+mod Settling
+mod Naming
+mod Placed
+mod Preamble
+mod Opening
+mod Accepted

@@ -35,27 +35,31 @@ use Rattle.spirv_emit.proofs.Prologue.{all_quiet, quiet_runs, buffers_run, const
 
 -- ## Facts on each number below a bound
 
-abbrev EachBelow : (ℕ → Type 0) → ℕ → Type 0
+abbrev pub EachBelow : (ℕ → Type 0) → ℕ → Type 0
 EachBelow P zero = Unit {0}
 EachBelow P (suc n) = EachBelow P n × P n
 
-same_or_not : (i j : ℕ) → (i ≡ j) ⊎ (i ≢ j)
+pub same_or_not : (i j : ℕ) → (i ≡ j) ⊎ (i ≢ j)
 same_or_not i j = ⊎_elim (λ (x : (eqb i j ≡ true) × (i ≡ j)). inl x.1) (λ (x : (eqb i j ≡ false) × (i ≢ j)). inr x.1) (eqb_tells i j)
 
-each_below : (P : ℕ → Type 0) (n : ℕ) → EachBelow P n → (i : ℕ) → i < n → P i
+pub each_below : (P : ℕ → Type 0) (n : ℕ) → EachBelow P n → (i : ℕ) → i < n → P i
 each_below P zero h i lt = absurd (omega arith)
 each_below P (suc n) h i lt = ⊎_elim (λ (e : i ≡ n). subst P (sym e) h.1) (λ (ne : i ≢ n). each_below P n h.0 i (omega arith)) (same_or_not i n)
 
 -- ## Numbers
 
-pub Has : List ℕ → ℕ → Type 0
+unfoldable pub Has : List ℕ → ℕ → Type 0
 Has numbers v = has numbers v ≡ true
 
+<<<<<<< HEAD
 pub has_id : (numbers : List ℕ) (v : ℕ) → has numbers v ≡ true → Has numbers v
 unfolding Has
 has_id numbers v h = h
 
 place_below : (v : ℕ) (xs : List ℕ) → has xs v ≡ true → place v xs < length xs
+=======
+pub place_below : (v : ℕ) (xs : List ℕ) → has xs v ≡ true → place v xs < length xs
+>>>>>>> 53ea7a0 (The profile takes every module that is emitted of a good shader)
 place_below v [] h = cc
 place_below v (x ∷ xs) h =
     ⊎_elim
@@ -66,7 +70,7 @@ place_below v (x ∷ xs) h =
     omega arith)
     (eqb_tells x v)
 
-placed : (v : ℕ) (xs : List ℕ) → has xs v ≡ true → slice_index xs (place v xs) ≡ v
+pub placed : (v : ℕ) (xs : List ℕ) → has xs v ≡ true → slice_index xs (place v xs) ≡ v
 placed v [] h = cc
 placed v (x ∷ xs) h =
     ⊎_elim
