@@ -67,6 +67,7 @@ operand_fits said a p h =
           relative_register (file_in next) (index_in next) (temps_of said) here
           (kept_first (rule (here && lacks_register (temps_of said) next) (p.at + 2) kind.Register) (drop 4 all) (kept_later 3 all h)) g
           (relative_file (file_in next) (bits 12 4 next == 0) here (kept_first (rule (here && not (is_relative next)) (p.at + 2) kind.Operand) [] (kept_later 4 all h)) g);
+      words = refl;
     }
 
 pub slot_fits : (said : Said) (a : Access) (p : Part) → first_broken (operand_rules SlotWord said a p) ≡ None

@@ -55,13 +55,15 @@ module _ (ds : List Declared) (temps : ℕ) where
     pub register : t.file ≡ 0 → t.index < temps
     pub null : t.file ≢ 0 → t.mask ≡ 0
 
-  -- a source whose register or constant buffer is declared, and the register of its relative index too
+  -- a source whose register or constant buffer is declared, and the register of its relative index too; it has four
+  -- words
   pub record OperandFits (o : Operand) : Type 0 where
     pub file : o.file ≤ 6
     pub register : o.file ≡ 0 → o.index < temps
     pub constant : o.file ≡ 2 → IsSome (declared_among 3 o.index ds)
     pub flagged : IsTrue o.flag → o.file ≡ 2
     pub relative : IsTrue o.flag → index_in (slice_index o.words 1) < temps
+    pub words : length o.words ≡ 4
 
   -- a slot that is declared with a form that the instruction takes
   abbrev pub SlotFits : Access → SlotUse → Type 0
