@@ -59,4 +59,9 @@ mod Naming
 mod Placed
 mod Preamble
 mod Opening
+mod FewNumbers
+mod FewPieces
+mod FewIds
+mod FewWords
+mod Bounds
 mod Accepted
