@@ -1,2 +1,4 @@
 pub mod Tracked
+pub mod Least
+pub mod Ranges
 pub mod Since

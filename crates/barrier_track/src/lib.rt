@@ -8,6 +8,9 @@ ghost use Rattle.vk_types.specs.declared.command.Command.{Command};
 ghost use Rattle.vk_types.specs.declared.op.VkOp.{VkOp};
 ghost use Rattle.vk_types.specs.declared.op.VkOp.TheVariants as op;
 
+mod blocks;
+mod least;
+mod ranges;
 mod stages;
 mod tracker;
 

@@ -1,25 +1,29 @@
-use Rattle.std.proofs.Common.{◌≡◌, ap, sym, ◌∙◌, ◌++◌}
-use Rattle.barrier_track.specs.Since.{least_seen, cause_of, used_by, seen_by}
-use Rattle.barrier_track.proofs.Since.{barrier_is, added, begun}
+use Rattle.std.proofs.Common.{ap, sym, ◌∙◌, ◌++◌}
+use Rattle.vk_types.specs.BarrierCauses.{lesser}
+use Rattle.barrier_track.specs.Since.{least_seen, used_by, seen_by}
+use Rattle.barrier_track.proofs.Since.{told, added, begun}
 use Rattle.barrier_track.proofs.tracker.Tracker.before.Goals as goal
 use Rattle.barrier_track.proofs.tracker.Tracker.before.Goals.{then-is_some, else-is_some}
 
-cause : (c : goal.After-self-2-1) → c.barrier_of-barrier.result ≡ cause_of c.args.self.now.uses (least_seen c.args.c.now c.args.self.now.seen) c.args.c.now.number
-cause c =
-    c.barrier_of-barrier.ensures
-    ∙ ap (λ o. cause_of c.self.inside.uses o c.args.c.now.number) (c.least_conflict.ensures ∙ ap (least_seen c.args.c.now) c.deref.ensures.value)
-    ∙ ap (λ t. cause_of t.uses (least_seen c.args.c.now t.seen) c.args.c.now.number) c.self.view_is
-
 pub returns-clause-barrier : goal.returns-clause-barrier
-returns-clause-barrier c = λ recent s. cause c ∙ barrier_is c.args.self.now recent s c.args.c.now
+returns-clause-barrier c = λ recent s.
+    told _ c.args.self.now recent c.args.c.now c.least_in_ranges.result c.lesser-least.result c.barrier_of-barrier.result c.self.view_is c.barrier_of-barrier.ensures
+    (c.lesser-least.ensures ∙ ap (lesser c.least_in_ranges.result) (c.least_of_latest.ensures ∙ ap (least_seen c.args.c.now) c.deref.ensures.value))
+    c.least_in_ranges.ensures s
 
 pub returns-clause-since : goal.returns-clause-since
 returns-clause-since c = λ recent s.
+    let is =
+        told _ c.args.self.now recent c.args.c.now c.least_in_ranges.result c.lesser-least.result c.barrier_of-barrier.result c.self.view_is c.barrier_of-barrier.ensures
+        (c.lesser-least.ensures ∙ ap (lesser c.least_in_ranges.result) (c.least_of_latest.ensures ∙ ap (least_seen c.args.c.now) c.deref.ensures.value))
+        c.least_in_ranges.ensures s in
     elim c.if-is_some.branch [
-      | then-is_some w ↦ begun c.args.self.now _ recent c.args.c.now c.barrier_of-barrier.result s (cause c) (sym c.is_some.ensures ∙ w.if-is_some.true)
-          (c.add.ensures.items ∙ ap (λ i. i.seen.items ++ seen_by c.args.c.now) w.self-inside-is ∙ ap (λ l. l ++ seen_by c.args.c.now) w.clear.ensures.items)
+      | then-is_some w ↦ begun _ recent c.args.c.now c.barrier_of-barrier.result is (sym c.is_some.ensures ∙ w.if-is_some.true)
+          (ap (λ i. i.blocks) w.self-inside-is ∙ w.clear.ensures)
+          (c.add.ensures.items ∙ ap (λ i. i.latest.items ++ seen_by c.args.c.now) w.self-inside-is ∙ ap (λ l. l ++ seen_by c.args.c.now) w.clear-then-is_some.ensures.items)
           (c.with-self-inside.ensures ∙ ap (λ i. used_by i.uses c.args.c.now) w.self-inside-is ∙ ap (λ u. used_by u c.args.c.now) w.none-self-inside.ensures)
-      | else-is_some w ↦ added c.args.self.now _ recent c.args.c.now c.barrier_of-barrier.result s (cause c) (sym c.is_some.ensures ∙ w.if-is_some.false)
-          (c.add.ensures.items ∙ ap (λ i. i.seen.items ++ seen_by c.args.c.now) w.self-inside-is ∙ ap (λ t. t.seen ++ seen_by c.args.c.now) c.self.view_is)
+      | else-is_some w ↦ added c.args.self.now _ recent c.args.c.now c.barrier_of-barrier.result s is (sym c.is_some.ensures ∙ w.if-is_some.false)
+          (ap (λ i. i.blocks) w.self-inside-is ∙ ap (λ t. t.blocks) c.self.view_is)
+          (c.add.ensures.items ∙ ap (λ i. i.latest.items ++ seen_by c.args.c.now) w.self-inside-is ∙ ap (λ t. t.latest ++ seen_by c.args.c.now) c.self.view_is)
           (c.with-self-inside.ensures ∙ ap (λ i. used_by i.uses c.args.c.now) w.self-inside-is ∙ ap (λ t. used_by t.uses c.args.c.now) c.self.view_is)
     ]
