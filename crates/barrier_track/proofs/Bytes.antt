@@ -74,9 +74,11 @@ same_split old new at l is puts = go
   where
     kept : (a : ℕ) → (a ≡ at → ⊥) → start_of new a ≡ start_of old a
     kept a other = puts a ∙ cond-false (is_at (nat_cmp at) a) (Some l) (start_of old a) (other_place at a other)
+
     here : (a : ℕ) → a ≡ at → byte_at new a ≡ byte_at old a
     here a same = subst (λ (a : ℕ). byte_at new a ≡ byte_at old a) (sym same)
         (byte_here (start_of new) at l (puts at ∙ cond-true (is_at (nat_cmp at) at) (Some l) (start_of old at) (same_place at)) ∙ is)
+
     go : (a : ℕ) → byte_at new a ≡ byte_at old a
     go zero = elim (cases_eq zero at) [ inl same ↦ here zero same | inr other ↦ ap (λ o. or_else o untouched) (kept zero other) ]
     go (suc a) = elim (cases_eq (suc a) at) [
@@ -109,6 +111,7 @@ marks_on old cur from at end l lo hi marks none a =
   where
     alike : (a : ℕ) → a < at → is_within from at a ≡ is_within from end a
     alike a before = grind (arith, nat_tests)
+
     nothing : (b : Bool) → cond b (option_map (λ s. joined s l) None) None ≡ None
     nothing true = refl
     nothing false = refl
@@ -137,27 +140,36 @@ marked_bytes old new from to l marks first last = go
   where
     by : (b : Bool) (s : Least) → option_map (λ s. joined s l) (Some s) ≡ Some (joined s l)
     by b s = refl
+
     some : (b : Bool) (s : Least) → cond b (option_map (λ s. joined s l) (Some s)) (Some s) ≡ Some (cond b (joined s l) s)
     some true s = refl
     some false s = refl
+
     nothing : (b : Bool) → cond b (option_map (λ s. joined s l) None) None ≡ None
     nothing true = refl
     nothing false = refl
+
     here : (a : ℕ) (s : Least) → start_of old a ≡ Some s → byte_at new a ≡ cond (is_within from to a) (joined (byte_at old a) l) (byte_at old a)
     here a s e =
         byte_here (start_of new) a (cond (is_within from to a) (joined s l) s)
         (marks a ∙ ap (λ o. cond (is_within from to a) (option_map (λ s. joined s l) o) o) e ∙ some (is_within from to a) s)
         ∙ ap (λ s. cond (is_within from to a) (joined s l) s) (sym (byte_here (start_of old) a s e))
+
     gone : (a : ℕ) → start_of old a ≡ None → start_of new a ≡ None
     gone a e = marks a ∙ ap (λ o. cond (is_within from to a) (option_map (λ s. joined s l) o) o) e ∙ nothing (is_within from to a)
+
     not_first : (a : ℕ) → start_of old a ≡ None → a ≡ from → ⊥
     not_first a e same = some_none (start_of old from) first (ap (start_of old) (sym same) ∙ e)
+
     not_last : (a : ℕ) → start_of old a ≡ None → a ≡ to → ⊥
     not_last a e same = some_none (start_of old to) last (ap (start_of old) (sym same) ∙ e)
+
     out : (n : zero ≡ from → ⊥) → is_within from to zero ≡ false
     out n = below from to zero (omega arith)
+
     alike : (a : ℕ) → (suc a ≡ from → ⊥) → (suc a ≡ to → ⊥) → is_within from to a ≡ is_within from to (suc a)
     alike a m n = grind (arith, nat_tests)
+
     go : (a : ℕ) → byte_at new a ≡ cond (is_within from to a) (joined (byte_at old a) l) (byte_at old a)
     go zero = elim (some_or_none (start_of old zero)) [
       | inl s ↦ here zero s.0 s.1

@@ -59,8 +59,8 @@ module _ (s t u : ℕ → ℕ → Least) (is : (block at : ℕ) → u block at �
   conflicts_joined ts a b p q =
       least_narrower (HasConflict u ts) (λ n. HasConflict s ts n ⊎ HasConflict t ts n) (lesser a b)
       (λ n h. has_either (λ x. Conflicts (s x.range.block) x.range.from x.range.to (against x.access) n) (λ x. Conflicts (t x.range.block) x.range.from x.range.to (against x.access) n) ts
-        (has_each (λ x. Conflicts (u x.range.block) x.range.from x.range.to (against x.access) n)
-          (λ x. Conflicts (s x.range.block) x.range.from x.range.to (against x.access) n ⊎ Conflicts (t x.range.block) x.range.from x.range.to (against x.access) n) ts (one_of_both n) h))
+      (has_each (λ x. Conflicts (u x.range.block) x.range.from x.range.to (against x.access) n)
+      (λ x. Conflicts (s x.range.block) x.range.from x.range.to (against x.access) n ⊎ Conflicts (t x.range.block) x.range.from x.range.to (against x.access) n) ts (one_of_both n) h))
       (λ n h. elim h [
         | inl l ↦ has_bound (λ x m. Conflicts (u x.range.block) x.range.from x.range.to (against x.access) m) n ts
             (has_each (λ x. Conflicts (s x.range.block) x.range.from x.range.to (against x.access) n) (λ x. (m : ℕ) × Conflicts (u x.range.block) x.range.from x.range.to (against x.access) m × (m ≤ n)) ts (with_first n) l)
@@ -128,14 +128,19 @@ clash_byte s u n clash accesses =
     let parts = and_parts (has_write s.touch.access || has_write u.access) (meets s.touch.range u.range) clash.0 in
     let byte = shared s.touch.range u.range parts.1 in
     let same = covered_block u.range s.touch.range.block byte.0 byte.2 in
-    let here = subst (λ (b : ℕ). covers s.touch.range b byte.0 ≡ true) (sym same) byte.1 in
-    (byte.0, ((covered_from u.range s.touch.range.block byte.0 byte.2, covered_to u.range s.touch.range.block byte.0 byte.2), elim (or_cases (has_write s.touch.access) (has_write u.access) parts.0) [
-      | inl w ↦ inl (written_mark s u.range.block byte.0 n here w clash.1)
-      | inr v ↦ elim (or_cases (has_read s.touch.access) (has_write s.touch.access) accesses) [
-        | inl r ↦ inr (v, read_mark s u.range.block byte.0 n here r clash.1)
-        | inr w ↦ inl (written_mark s u.range.block byte.0 n here w clash.1)
-      ]
-    ]))
+    let here = subst (λ (b : ℕ). covers s.touch.range b byte.0 ≡ true) (sym same) byte.1 in (
+      byte.0,
+      (
+        (covered_from u.range s.touch.range.block byte.0 byte.2, covered_to u.range s.touch.range.block byte.0 byte.2),
+        elim (or_cases (has_write s.touch.access) (has_write u.access) parts.0) [
+          | inl w ↦ inl (written_mark s u.range.block byte.0 n here w clash.1)
+          | inr v ↦ elim (or_cases (has_read s.touch.access) (has_write s.touch.access) accesses) [
+            | inl r ↦ inr (v, read_mark s u.range.block byte.0 n here r clash.1)
+            | inr w ↦ inl (written_mark s u.range.block byte.0 n here w clash.1)
+          ]
+        ],
+      ),
+    )
 
 byte_clash : (s : Seen) (u : Touch) (n at : ℕ) → u.range.from ≤ at → at < u.range.to → AtByte s u n at → Clash s u n
 byte_clash s u n at lo hi h =
@@ -192,7 +197,7 @@ module _ (c : Command) (ss : List Seen) where
       let marked = has_each (λ s. InByte s u n at) (λ s. AtByte s u n at) ss (λ s k. k.1) byte.1 in
       let state = touched_at ss block at in
       let finish : (k : ℕ) → k ≤ n → (m : ℕ) × (against u.access state ≡ Some m) × (m ≤ k) → (m : ℕ) × Conflicts (touched_at ss block) u.range.from u.range.to (against u.access) m × (m ≤ n) =
-          λ k le h. (h.0, (at, inside.0, inside.1, h.1), omega (arith, le, h.2)) in
+      λ k le h. (h.0, (at, inside.0, inside.1, h.1), omega (arith, le, h.2)) in
       elim (has_either (λ s. (mark_of s block at).written ≡ Some n) (λ s. (has_write u.access ≡ true) × ((mark_of s block at).read ≡ Some n)) ss marked) [
         | inl w ↦ let l = (written_is ss block at).lower n w in finish l.0 l.2 (written_against u.access state l.0 l.1)
         | inr r ↦
@@ -221,12 +226,12 @@ module _ (c : Command) (ss : List Seen) where
   seen_is accesses =
       least_narrower (HasConflict (touched_at ss) (touches c)) (λ n. Has (λ s. clash_of c s ≡ Some n) ss) (least_seen c ss)
       (λ n h. has_each (λ s. Has (λ u. Clash s u n) (touches c)) (λ s. clash_of c s ≡ Some n) ss (λ s k. clash_is s n k)
-        (has_swap (λ u s. Clash s u n) (touches c) ss
-        (has_each (λ u. Conflicts (touched_at ss u.range.block) u.range.from u.range.to (against u.access) n) (λ u. Has (λ s. Clash s u n) ss) (touches c) (λ u k. bytes_clash u n k) h)))
+      (has_swap (λ u s. Clash s u n) (touches c) ss
+      (has_each (λ u. Conflicts (touched_at ss u.range.block) u.range.from u.range.to (against u.access) n) (λ u. Has (λ s. Clash s u n) ss) (touches c) (λ u k. bytes_clash u n k) h)))
       (λ n h. has_bound (λ u m. Conflicts (touched_at ss u.range.block) u.range.from u.range.to (against u.access) m) n (touches c)
-        (has_each (λ u. Has (λ s. Clash s u n × Accesses s) ss) (λ u. (m : ℕ) × Conflicts (touched_at ss u.range.block) u.range.from u.range.to (against u.access) m × (m ≤ n)) (touches c) (λ u k. clash_bytes u n k)
-        (has_swap (λ s u. Clash s u n × Accesses s) ss (touches c)
-        (with_access ss accesses n h))))
+      (has_each (λ u. Has (λ s. Clash s u n × Accesses s) ss) (λ u. (m : ℕ) × Conflicts (touched_at ss u.range.block) u.range.from u.range.to (against u.access) m × (m ≤ n)) (touches c) (λ u k. clash_bytes u n k)
+      (has_swap (λ s u. Clash s u n × Accesses s) ss (touches c)
+      (with_access ss accesses n h))))
       (least_by_is (clash_of c) ss)
     where
       with_access : (xs : List Seen) → EachAccesses xs → (n : ℕ) → Has (λ s. clash_of c s ≡ Some n) xs → Has (λ s. Has (λ u. Clash s u n × Accesses s) (touches c)) xs

@@ -66,6 +66,7 @@ least_either P Q a b p q = record {
   where
     left : (n : ℕ) → (m : ℕ) × (a ≡ Some m) × (m ≤ n) → (m : ℕ) × (lesser a b ≡ Some m) × (m ≤ n)
     left n h = let l = lesser_left a b h.0 h.1 in (l.0, l.1, omega (arith, l.2, h.2))
+
     right : (n : ℕ) → (m : ℕ) × (b ≡ Some m) × (m ≤ n) → (m : ℕ) × (lesser a b ≡ Some m) × (m ≤ n)
     right n h = let r = lesser_right a b h.0 h.1 in (r.0, r.1, omega (arith, r.2, h.2))
 
@@ -82,10 +83,10 @@ some_same e f = cc
 pub least_narrower : (P Q : ℕ → Type 0) (o : Option ℕ) → ((n : ℕ) → P n → Q n) → ((n : ℕ) → Q n → (m : ℕ) × P m × (m ≤ n)) → IsLeast Q o → IsLeast P o
 least_narrower P Q o up down h = record {
   found = λ n e.
-    let d = down n (h.found n e) in
-    let l = h.lower d.0 (up d.0 d.1) in
-    let is : d.0 ≡ n = omega (arith, l.2, d.2, some_same e l.1) in
-    subst P is d.1;
+      let d = down n (h.found n e) in
+      let l = h.lower d.0 (up d.0 d.1) in
+      let is : d.0 ≡ n = omega (arith, l.2, d.2, some_same e l.1) in
+      subst P is d.1;
   lower = λ n p. h.lower n (up n p);
 }
 

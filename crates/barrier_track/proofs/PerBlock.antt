@@ -79,6 +79,7 @@ adds_touch old new t l was is had adds puts block at =
   where
     outside : (block ≡ t.range.block → ⊥) → covers t.range block at ≡ false
     outside other = false_from_ne_true (covers t.range block at) (λ e. other (sym (covered_block t.range block at e)))
+
     here : state_at new t.range.block at ≡ cond (covers t.range t.range.block at) (joined (state_at old t.range.block at) l) (state_at old t.range.block at)
     here =
         ap (λ (rs : Ranges). byte_at rs at) (put_here old new t.range.block is puts) ∙ adds at

@@ -193,12 +193,12 @@ one_more : (old new : Tracked) (recent : List Command) (c : Command) → IsSince
     → new.blocks ≡ old.blocks → new.latest ≡ old.latest ++ seen_by c → new.uses ≡ used_by old.uses c → IsSince new (recent ++ c ∷ [])
 one_more old new recent c s same e u = record {
   bytes = λ block at.
-    ap (λ (bs : Blocks). joined (state_at bs block at) (touched_at new.latest block at)) same
-    ∙ (ap (λ (l : List Seen). joined (state_at old.blocks block at) (touched_at l block at)) e
-    ∙ (ap (joined (state_at old.blocks block at)) (touched-append old.latest (seen_by c) block at)
-    ∙ (sym (joined_assoc (state_at old.blocks block at) (touched_at old.latest block at) (touched_at (seen_by c) block at))
-    ∙ (ap (λ (l : Least). joined l (touched_at (seen_by c) block at)) (s.bytes block at)
-    ∙ (sym (touched-append (flat_map seen_by recent) (seen_by c) block at) ∙ ap (λ (l : List Seen). touched_at l block at) (sym (flat_more recent c)))))));
+      ap (λ (bs : Blocks). joined (state_at bs block at) (touched_at new.latest block at)) same
+      ∙ (ap (λ (l : List Seen). joined (state_at old.blocks block at) (touched_at l block at)) e
+      ∙ (ap (joined (state_at old.blocks block at)) (touched-append old.latest (seen_by c) block at)
+      ∙ (sym (joined_assoc (state_at old.blocks block at) (touched_at old.latest block at) (touched_at (seen_by c) block at))
+      ∙ (ap (λ (l : Least). joined l (touched_at (seen_by c) block at)) (s.bytes block at)
+      ∙ (sym (touched-append (flat_map seen_by recent) (seen_by c) block at) ∙ ap (λ (l : List Seen). touched_at l block at) (sym (flat_more recent c)))))));
   accesses = subst EachAccesses (sym e) (accesses-append old.latest (seen_by c) s.accesses (accesses_by c));
   uses = u ∙ (ap (λ u. used_by u c) s.uses ∙ sym (uses_more recent c));
 }
@@ -207,9 +207,9 @@ one_more old new recent c s same e u = record {
 pub since_none : (new : Tracked) → new.blocks ≡ [] → new.latest ≡ [] → new.uses ≡ unused → IsSince new []
 since_none new blocks latest uses = record {
   bytes = λ block at.
-    ap (λ (bs : Blocks). joined (state_at bs block at) (touched_at new.latest block at)) blocks
-    ∙ (ap (λ (l : List Seen). joined (state_at [] block at) (touched_at l block at)) latest
-    ∙ (joined_none (state_at [] block at) ∙ untouched_bytes at));
+      ap (λ (bs : Blocks). joined (state_at bs block at) (touched_at new.latest block at)) blocks
+      ∙ (ap (λ (l : List Seen). joined (state_at [] block at) (touched_at l block at)) latest
+      ∙ (joined_none (state_at [] block at) ∙ untouched_bytes at));
   accesses = subst EachAccesses (sym latest) tt;
   uses = uses;
 }
@@ -295,8 +295,8 @@ rests_keep seen i old cur rests block at =
 pub since_settled : (old new : Tracked) (recent : List Command) → Settles old.blocks old.latest new.blocks → new.latest ≡ [] → new.uses ≡ old.uses → IsSince old recent → IsSince new recent
 since_settled old new recent settles none same s = record {
   bytes = λ block at.
-    ap (λ (l : List Seen). joined (state_at new.blocks block at) (touched_at l block at)) none
-    ∙ (joined_none (state_at new.blocks block at) ∙ (settles block at ∙ s.bytes block at));
+      ap (λ (l : List Seen). joined (state_at new.blocks block at) (touched_at l block at)) none
+      ∙ (joined_none (state_at new.blocks block at) ∙ (settles block at ∙ s.bytes block at));
   accesses = subst EachAccesses (sym none) tt;
   uses = same ∙ s.uses;
 }

@@ -90,12 +90,7 @@ fn mark(starts: &mut BTreeMap<u64, Least>, from: u64, to: u64, least: Least)
 }
 
 /// The least command that conflicts with a touch of these bytes with this access.
-fn conflict(
-    starts: &BTreeMap<u64, Least>,
-    from: u64,
-    to: u64,
-    access: Access,
-) -> Option<u64>
+fn conflict(starts: &BTreeMap<u64, Least>, from: u64, to: u64, access: Access) -> Option<u64>
     requires { from < to }
     ensures { IsLeast (Conflicts (byte_at starts.now.entries) from to (against access)) result }
 {

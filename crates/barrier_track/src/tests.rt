@@ -148,7 +148,11 @@ fn by_transfers(first: u64, second: u64) -> Option<Barrier> {
 fn barriers_by_byte_ranges(rt: HostRuntime) -> Result<(), Fail> {
     let alloc = rt.alloc();
     let read = |number: u64, from: u64, to: u64| {
-        copy_part(number, part(512, from, to), part(600 + number as u32, 0, 16))
+        copy_part(
+            number,
+            part(512, from, to),
+            part(600 + number as u32, 0, 16),
+        )
     };
     let write = |number: u64, from: u64, to: u64| fill_part(number, part(512, from, to));
     let lists = [
@@ -181,7 +185,11 @@ fn barriers_by_byte_ranges(rt: HostRuntime) -> Result<(), Fail> {
             [None, None, None],
         ),
         (
-            vec![in alloc; write(1, 0, 16), write(2, 8, 8), fill_part(3, part(513, 0, 16))]?,
+            vec![in alloc;
+                write(1, 0, 16),
+                write(2, 8, 8),
+                fill_part(3, part(513, 0, 16)),
+            ]?,
             [None, None, None],
         ),
         (

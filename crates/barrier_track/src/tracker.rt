@@ -110,7 +110,10 @@ impl Tracker {
         ensures barrier { (recent : List Command) → IsSince self.old recent → result ≡ barrier_before recent c.now }
         ensures since { (recent : List Command) → IsSince self.old recent → IsSince self.new (recent_after recent c.now) }
     {
-        let least = lesser(least_in_ranges(&self.blocks, c), least_of_latest(&self.latest, c));
+        let least = lesser(
+            least_in_ranges(&self.blocks, c),
+            least_of_latest(&self.latest, c),
+        );
         let barrier = barrier_of(self.uses, least, c.number);
         if barrier.is_some() {
             self.blocks.clear();

@@ -23,14 +23,14 @@ walk-preserved c =
     let first = c.in-Some.ensures in
     let start = c.in-Some.start in
     let before = least_on (byte_at rs) (against access) c.args.from c.walk.at start c.walk.least c.walk.invariant.from first.0
-        (alike_before rs c.walk.at start (omega (arith, c.walk.invariant.from)) first.3) c.walk.invariant.least in
+    (alike_before rs c.walk.at start (omega (arith, c.walk.invariant.from)) first.3) c.walk.invariant.least in
     record {
       from = omega (arith, first.0, c.walk.invariant.from);
       to = omega (arith, first.1);
       least =
-        subst (IsLeast (Conflicts (byte_at rs) c.args.from (start + 1) (against access)))
-        (sym (c.lesser-least.ensures ∙ ap (lesser c.walk.least) (c.against.ensures ∙ ap (against access) (byte_start rs start c.in-Some.range first.2))))
-        (least_one (byte_at rs) (against access) c.args.from start c.walk.least (omega (arith, first.0, c.walk.invariant.from)) before);
+          subst (IsLeast (Conflicts (byte_at rs) c.args.from (start + 1) (against access)))
+          (sym (c.lesser-least.ensures ∙ ap (lesser c.walk.least) (c.against.ensures ∙ ap (against access) (byte_start rs start c.in-Some.range first.2))))
+          (least_one (byte_at rs) (against access) c.args.from start c.walk.least (omega (arith, first.0, c.walk.invariant.from)) before);
     }
 
 pub returns : goal.returns

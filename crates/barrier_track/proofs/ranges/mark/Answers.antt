@@ -17,10 +17,10 @@ walk-preserved c =
       from = omega arith;
       to = omega (arith, first.1);
       marks =
-        marks_one c.args.starts.now.entries c.walk.starts.entries c.set.new.starts.entries c.args.from c.in-Some.start c.args.least c.in-Some.old lo
-        (marks_on c.args.starts.now.entries c.walk.starts.entries c.args.from c.walk.at c.in-Some.start c.args.least c.walk.invariant.from first.0 c.walk.invariant.marks first.3)
-        first.2
-        (λ a. c.set.ensures a ∙ ap (λ (l : Least). cond (is_at (nat_cmp c.in-Some.start) a) (Some l) (start_of c.walk.starts.entries a)) c.joined.ensures);
+          marks_one c.args.starts.now.entries c.walk.starts.entries c.set.new.starts.entries c.args.from c.in-Some.start c.args.least c.in-Some.old lo
+          (marks_on c.args.starts.now.entries c.walk.starts.entries c.args.from c.walk.at c.in-Some.start c.args.least c.walk.invariant.from first.0 c.walk.invariant.marks first.3)
+          first.2
+          (λ a. c.set.ensures a ∙ ap (λ (l : Least). cond (is_at (nat_cmp c.in-Some.start) a) (Some l) (start_of c.walk.starts.entries a)) c.joined.ensures);
     }
 
 pub returns : goal.returns

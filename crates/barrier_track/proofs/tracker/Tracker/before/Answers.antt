@@ -14,9 +14,9 @@ returns-clause-barrier c = λ recent s.
 pub returns-clause-since : goal.returns-clause-since
 returns-clause-since c = λ recent s.
     let is =
-        told _ c.args.self.now recent c.args.c.now c.least_in_ranges.result c.lesser-least.result c.barrier_of-barrier.result c.self.view_is c.barrier_of-barrier.ensures
-        (c.lesser-least.ensures ∙ ap (lesser c.least_in_ranges.result) (c.least_of_latest.ensures ∙ ap (least_seen c.args.c.now) c.deref.ensures.value))
-        c.least_in_ranges.ensures s in
+    told _ c.args.self.now recent c.args.c.now c.least_in_ranges.result c.lesser-least.result c.barrier_of-barrier.result c.self.view_is c.barrier_of-barrier.ensures
+    (c.lesser-least.ensures ∙ ap (lesser c.least_in_ranges.result) (c.least_of_latest.ensures ∙ ap (least_seen c.args.c.now) c.deref.ensures.value))
+    c.least_in_ranges.ensures s in
     elim c.if-is_some.branch [
       | then-is_some w ↦ begun _ recent c.args.c.now c.barrier_of-barrier.result is (sym c.is_some.ensures ∙ w.if-is_some.true)
           (ap (λ i. i.blocks) w.self-inside-is ∙ w.clear.ensures)
