@@ -63,7 +63,7 @@ module _ (meaning : Meaning) (reading : Reading) (script : Script) (lawful : IsL
   other : block ≡ had_block.0 → ⊥
   other same = vacant_lives buffer (old.owner block) empty_block (subst (λ b. IsLive buffer (old.owner b)) (sym same) (k.good.live buffer had_block.0 had_block.1))
 
-  own_here : own block ≡ old.owner block
+  pub own_here : own block ≡ old.owner block
   own_here = ap (λ c. cond c (retire_owner (open_number old) (old.owner block)) (old.owner block)) (not_retired (old.blocks buffer) had_block.0 block had_block.1 other)
 
   live_own : (r b : ℕ) → old.blocks r ≡ Some b → (r == buffer) ≡ false → IsLive r (own b)

@@ -57,14 +57,14 @@ module _ (meaning : Meaning) (script : Script) (lawful : IsLawful meaning script
   after_turns (x ∷ []) front mid t back e = after_last mid front x t back e
   after_turns (x ∷ y ∷ ts) front mid t back e = after_turns (y ∷ ts) (front ++ x ∷ []) mid t back (move front x (y ∷ (ts ++ (mid ++ t ∷ back))) e)
 
-  after_segments : (ss : List Segment) (front mid : List Turn) (t : Turn) (back : List Turn) → script.turns ≡ front ++ (joined (turns_of ss) ++ (mid ++ t ∷ back)) → last_finished ss < call_of t
+  pub after_segments : (ss : List Segment) (front mid : List Turn) (t : Turn) (back : List Turn) → script.turns ≡ front ++ (joined (turns_of ss) ++ (mid ++ t ∷ back)) → last_finished ss < call_of t
   after_segments [] front mid t back e = lawful.numbers (front ++ mid) t back (e ∙ sym (append_assoc front mid (t ∷ back)))
   after_segments (s ∷ []) front mid t back e = after_turns s.turns front mid t back (e ∙ ap (λ l. front ++ (l ++ (mid ++ t ∷ back))) (append-nil s.turns))
   after_segments (s ∷ u ∷ ss) front mid t back e =
       after_segments (u ∷ ss) (front ++ s.turns) mid t back
       (e ∙ ap (λ l. front ++ l) (append_assoc s.turns (joined (turns_of (u ∷ ss))) (mid ++ t ∷ back)) ∙ sym (append_assoc front s.turns (joined (turns_of (u ∷ ss)) ++ (mid ++ t ∷ back))))
 
-  all_later : (ts front : List Turn) (x : Turn) (mid back : List Turn) → script.turns ≡ front ++ x ∷ (mid ++ (ts ++ back)) → AllByRecursion (λ t. call_of x ≤ call_of t) ts
+  pub all_later : (ts front : List Turn) (x : Turn) (mid back : List Turn) → script.turns ≡ front ++ x ∷ (mid ++ (ts ++ back)) → AllByRecursion (λ t. call_of x ≤ call_of t) ts
   all_later [] front x mid back e = tt
   all_later (t ∷ ts) front x mid back e = (
     rises mid front x t (ts ++ back) e,
@@ -106,7 +106,7 @@ turns_use script blocks r b st is (s ∷ ss) h u =
           ∙ or_right (uses_buffer r s.turns) (uses_buffer r (joined (turns_of ss))) (turns_use script blocks r b st is ss h.1 x)
     ]
 
-joined_append : (xs ys : List Segment) → joined (turns_of (xs ++ ys)) ≡ joined (turns_of xs) ++ joined (turns_of ys)
+pub joined_append : (xs ys : List Segment) → joined (turns_of (xs ++ ys)) ≡ joined (turns_of xs) ++ joined (turns_of ys)
 joined_append [] ys = refl
 joined_append (x ∷ xs) ys = ap (λ l. x.turns ++ l) (joined_append xs ys) ∙ sym (append_assoc x.turns (joined (turns_of xs)) (joined (turns_of ys)))
 

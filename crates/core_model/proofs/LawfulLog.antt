@@ -3,10 +3,10 @@ use Rattle.std.proofs.Common.{◌≡◌, ℕ, ◌+◌, ◌<◌, true, false, Lis
 use Rattle.std.specs.List.{AllByRecursion}
 use Rattle.dx_types.specs.declared.range.Range.{Range}
 use Rattle.vk_types.specs.Hazards.{is_touched}
-use Rattle.core_model.specs.Script.{Stage, Bytes, Count, Constant, Turn, Refused, Passed, Flushed, Asked, Item}
+use Rattle.core_model.specs.Script.{Stage, Turn, Refused, Passed, Flushed, Asked, Item}
 use Rattle.core_model.specs.Chunking.{call_of, ends_call}
 use Rattle.core_model.specs.Owners.{in_ranges}
-use Rattle.core_model.specs.Lawful.{play_touches, UsesRightly, ComesNext, AsksRightly, Fits, PlaysRightly, may_bind, IsLawful, AsksNoCount}
+use Rattle.core_model.specs.Lawful.{play_touches, UsesRightly, ComesNext, AsksRightly, Fits, PlaysRightly, may_bind, IsLawful}
 use Rattle.core_model.specs.WorkedLogs.{no_shaders, sixteen, all_of, buffer, copy, update_copy_map}
 
 -- what holds at each turn, of the turns before it and behind it
@@ -107,19 +107,3 @@ update_copy_map_lawful = record {
   classes = λ buffer. tt;
   staging = λ buffer h. refl;
 }
-
--- no call of it asks for a count
-abbrev Uncounted : List Turn → Turn → List Turn → Type 0
-Uncounted front (Refused call) back = Unit {0}
-Uncounted front (Passed call) back = Unit {0}
-Uncounted front (Flushed call) back = Unit {0}
-Uncounted front (Asked call (Bytes source) used may_pend) back = Unit {0}
-Uncounted front (Asked call (Count query) used may_pend) back = ⊥
-Uncounted front (Asked call (Constant value) used may_pend) back = Unit {0}
-Uncounted front (Item call item ends play bound) back = Unit {0}
-
-uncounted : AtEach Uncounted [] update_copy_map.turns
-uncounted = (tt, (tt, (tt, (tt, (tt, tt)))))
-
-pub update_copy_map_uncounted : AsksNoCount update_copy_map
-update_copy_map_uncounted front call query used may_pend back e = at_turn Uncounted [] update_copy_map.turns uncounted front (Asked call (Count query) used may_pend) back e

@@ -57,3 +57,13 @@ pub mod KeptActs
 pub mod Settling
 pub mod WorkedRuns
 pub mod LawfulLog
+pub mod InOrderCounts
+pub mod QueryMarks
+pub mod NewestValues
+pub mod InOrderQueries
+pub mod QueryCalls
+pub mod QueryAnswers
+pub mod QueryMoves
+pub mod QueryTurns
+pub mod CountsKept
+pub mod QueriesKept

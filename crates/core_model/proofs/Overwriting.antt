@@ -4,7 +4,7 @@ use Rattle.std.proofs.lemmas.Bool.{both_ways, cases_Bool}
 use mathlib.Core.Path.{fun_ext}
 use Rattle.dx_types.specs.declared.range.Range.{Range}
 use Rattle.vk_types.specs.Memory.{Memory, covers, put, range, number_at, or_zero}
-use Rattle.vk_types.specs.Effects.{Meaning}
+use Rattle.vk_types.specs.Effects.{Meaning, Host_write}
 use Rattle.vk_types.proofs.Lists.{all_map}
 use Rattle.vk_types.proofs.Local.{covered_block, covered_from, covered_to}
 use Rattle.core_model.specs.Script.{No_overwrite, Turn, Item, Script, InOrder, at_start, turn_in_order, in_order}
@@ -12,9 +12,9 @@ use Rattle.core_model.specs.Chunking.{is_due}
 use Rattle.core_model.specs.Renaming.{block_of}
 use Rattle.core_model.specs.CoreState.{Owner, Unmade, Home, Returning, Spare, Live, Retired, Paged, Dropped, Core, taken_count, finished_count}
 use Rattle.core_model.specs.Readings.{Reading}
-use Rattle.core_model.specs.Adding.{has_block, placed_at}
+use Rattle.core_model.specs.Adding.{has_block, new_entry, placed_at}
 use Rattle.core_model.specs.AppActs.{TakesTurn}
-use Rattle.core_model.specs.Worlds.{empty}
+use Rattle.core_model.specs.Worlds.{empty, world_step}
 use Rattle.core_model.specs.Lawful.{is_bound, PlaysRightly, IsLawful}
 use Rattle.core_model.specs.Invariant.{Allows, IsLive, Totals, Good}
 use Rattle.core_model.specs.Kept.{IsTakenBy, bound_at, Names, Kept}
@@ -151,20 +151,23 @@ module _ (meaning : Meaning) (reading : Reading) (script : Script) (lawful : IsL
         let sized : script.size buffer ≡ script.size r = ap script.size same in
         (block.0, ap old.blocks (sym same) ∙ block.1, omega (arith, u, fits, sized))
 
+    -- what is left now
+    pub left_now : left_by meaning done ≡ world_step meaning (new_entry taken (Host_write target bytes)) (left_by meaning old)
+    left_now = written_world meaning script taken taken_opened call target bytes long filled old_at empty
+
     done_meets : Meets meaning script done (turn_in_order meaning script turn before)
     done_meets =
-        let left : left_by meaning done ≡ _ = written_world meaning script taken taken_opened call target bytes long filled old_at empty in
         record {
           stands = record {
             has_block = m.stands.has_block;
             is_live = m.stands.is_live;
             own = m.stands.own;
             bytes = λ r b i is l.
-                ap (λ w. w.memory b i) left
+                ap (λ w. w.memory b i) left_now
                 ∙ put_alike script.size old.blocks m.stands.own (range buffer from (from + length bytes)) in_buffer (number_at bytes) (number_at bytes) (λ k. refl) (left_by meaning old).memory before.bytes m.stands.bytes r b i is l;
           };
           live = g.live;
-          totals = subst (λ f. Totals f old.commands (turn_in_order meaning script turn before)) (sym (ap (λ w. w.counts) left)) (let t = m.totals in record { total = t.total; above = t.above });
+          totals = subst (λ f. Totals f old.commands (turn_in_order meaning script turn before)) (sym (ap (λ w. w.counts) left_now)) (let t = m.totals in record { total = t.total; above = t.above });
         }
 
     some_good : Good meaning reading script done

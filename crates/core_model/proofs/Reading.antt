@@ -261,12 +261,17 @@ module _ (meaning : Meaning) (reading : Reading) (script : Script) (lawful : IsL
   m : Meets meaning script old before
   m = met meaning reading script old k.good
 
+  -- what is left stays
+  pub left_now : (u : Option ℕ) → left_by meaning (with_read call (range_on old.blocks source) u taken) ≡ left_by meaning old
+  left_now None = refl
+  left_now (Some n) =
+      read_left meaning script taken taken_opened call (range_on old.blocks source) asks.2 (ap old.is_staging at_block ∙ k.beside.blocks.alike source.block block.0 block.1 ∙ asks.1)
+      (k.traced.quiet (is_bare meaning reading script lawful old k call (Bytes source) used may_pend turns e due)) k.fenced past (read_is_host old.open_chunk.reads taken_opened.shaped.0) empty
+
   read_good : (u : Option ℕ) → Good meaning reading script (with_read call (range_on old.blocks source) u taken)
   read_good None = taken_good meaning reading script old taken turn turns e due refl refl refl refl k.good taken_opened (record { stands = m.stands; live = m.live; totals = m.totals })
   read_good (Some n) =
-      let same : left_by meaning (reads_range call (range_on old.blocks source) taken) ≡ left_by meaning old =
-      read_left meaning script taken taken_opened call (range_on old.blocks source) asks.2 (ap old.is_staging at_block ∙ k.beside.blocks.alike source.block block.0 block.1 ∙ asks.1)
-      (k.traced.quiet (is_bare meaning reading script lawful old k call (Bytes source) used may_pend turns e due)) k.fenced past (read_is_host old.open_chunk.reads taken_opened.shaped.0) empty in
+      let same = left_now (Some n) in
       taken_good meaning reading script old (reads_range call (range_on old.blocks source) taken) turn turns e due refl refl refl refl k.good read_opened (record {
         stands = subst (λ w. Stands script w.memory old.blocks before) (sym same) m.stands;
         live = m.live;

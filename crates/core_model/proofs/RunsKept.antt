@@ -1,5 +1,5 @@
 -- The invariant holds in every state that a run reaches, by any choices; and the blocks that App takes.
-use Rattle.std.proofs.Common.{◌≡◌, ℕ, false, List, [], ◌∷◌, ◌++◌, refl, sym, ap, ◌∙◌, subst, inl, inr, Some, arith, cond, ◌==◌, ◌<◌}
+use Rattle.std.proofs.Common.{◌≡◌, ℕ, false, List, [], ◌∷◌, refl, sym, ap, ◌∙◌, subst, inl, inr, Some, arith, cond, ◌==◌, ◌<◌}
 use Rattle.std.specs.List.{AllByRecursion}
 use Rattle.std.proofs.lemmas.Bool.{cases_Bool, eqb-true}
 use Rattle.vk_types.specs.Effects.{Meaning}
@@ -10,73 +10,90 @@ use Rattle.core_model.specs.CoreState.{Owner, Unmade, Home, Returning, Spare, Li
 use Rattle.core_model.specs.Readings.{Reading, Any_choices}
 use Rattle.core_model.specs.TakingPosts.{with_fence}
 use Rattle.core_model.specs.AppActs.{TakesTurn, Acts}
-use Rattle.core_model.specs.CoreStep.{Event, App, Cs, Pipe, Submit, Accept, Run, Complete, Finish, Come_home, Step, Chain}
+use Rattle.core_model.specs.CoreStep.{Event, App, Cs, Pipe, Submit, Accept, Run, Complete, Finish, Come_home, is_of_app, Step, Chain}
 use Rattle.core_model.specs.Playing.{HasBlock}
 use Rattle.core_model.specs.Placing.{PageChoice, Staged, Stages, On_newest, On_spare, On_new}
 use Rattle.core_model.specs.Stands.{may_touch, IsFree}
-use Rattle.core_model.specs.Lawful.{IsLawful, AsksNoCount}
+use Rattle.core_model.specs.Lawful.{IsLawful}
 use Rattle.core_model.specs.Invariant.{IsLive, IsAsked, IsRight}
 use Rattle.core_model.specs.Kept.{Kept}
+use Rattle.core_model.specs.Queries.{QueriesRight}
 use Rattle.core_model.proofs.Idle.{free_is_idle, made_is_idle}
 use Rattle.core_model.proofs.Giving.{IsVacant, vacant_lives, stocked, vacant}
 use Rattle.core_model.proofs.KeptSteps.{posts_kept, hand_over_kept, others_kept, start_kept}
 use Rattle.core_model.proofs.KeptTurns.{plain_kept, constant_kept, end_kept}
 use Rattle.core_model.proofs.KeptActs.{items_kept}
 use Rattle.core_model.proofs.Reading.{asked_bytes_kept}
+use Rattle.core_model.proofs.QueryMoves.{start_queries, posts_queries, hand_over_queries, others_queries}
+use Rattle.core_model.proofs.QueriesKept.{turn_queries, end_queries, count_kept}
 use Rattle.core_model.proofs.Choices.{run_free}
 use Rattle.core_model.specs.Runs.{IsRun, pending_in}
 
-module _ (meaning : Meaning) (reading : Reading) (script : Script) (lawful : IsLawful meaning script) (uncounted : AsksNoCount script) where
-  turn_kept : (old : Core) (t : Turn) (turns : List Turn) (new : Core) → old.future ≡ t ∷ turns → is_due script old.open_chunk.turns old.future ≡ false → TakesTurn reading script t turns old new
-      → Kept meaning reading script old → Kept meaning reading script new
-  turn_kept old (Refused call) turns new e due n k = plain_kept meaning reading script old (Refused call) turns new refl e due n k
-  turn_kept old (Passed call) turns new e due n k = plain_kept meaning reading script old (Passed call) turns new refl e due n k
-  turn_kept old (Flushed call) turns new e due n k = plain_kept meaning reading script old (Flushed call) turns new refl e due n k
-  turn_kept old (Asked call (Bytes source) used may_pend) turns new e due n k = asked_bytes_kept meaning reading script lawful old call source used may_pend turns new e due n k
-  turn_kept old (Asked call (Count query) used may_pend) turns new e due n k =
-      absurd (uncounted old.past call query used may_pend turns (sym (ap (λ l. old.past ++ l) (sym e) ∙ k.good.sound.position)))
-  turn_kept old (Asked call (Constant value) used may_pend) turns new e due n k = constant_kept meaning reading script old call value used may_pend turns new e due n k
-  turn_kept old (Item call item ends play bound) turns new e due n k = items_kept meaning reading script lawful old call item ends play bound turns new e due n k
+module _ (meaning : Meaning) (reading : Reading) (script : Script) (lawful : IsLawful meaning script) where
+  -- the invariant, and what holds of queries
+  abbrev Holds : Core → Type 0
+  Holds core = Kept meaning reading script core × QueriesRight meaning script core
 
-  acts_kept : (old new : Core) → Acts reading script old new → Kept meaning reading script old → Kept meaning reading script new
+  turn_kept : (old : Core) (t : Turn) (turns : List Turn) (new : Core) → old.future ≡ t ∷ turns → is_due script old.open_chunk.turns old.future ≡ false → TakesTurn reading script t turns old new
+      → QueriesRight meaning script old → Kept meaning reading script old → Kept meaning reading script new
+  turn_kept old (Refused call) turns new e due n q k = plain_kept meaning reading script old (Refused call) turns new refl e due n k
+  turn_kept old (Passed call) turns new e due n q k = plain_kept meaning reading script old (Passed call) turns new refl e due n k
+  turn_kept old (Flushed call) turns new e due n q k = plain_kept meaning reading script old (Flushed call) turns new refl e due n k
+  turn_kept old (Asked call (Bytes source) used may_pend) turns new e due n q k = asked_bytes_kept meaning reading script lawful old call source used may_pend turns new e due n k
+  turn_kept old (Asked call (Count query) used may_pend) turns new e due n q k = count_kept meaning reading script lawful old call query used may_pend turns new e due n q k
+  turn_kept old (Asked call (Constant value) used may_pend) turns new e due n q k = constant_kept meaning reading script old call value used may_pend turns new e due n k
+  turn_kept old (Item call item ends play bound) turns new e due n q k = items_kept meaning reading script lawful old call item ends play bound turns new e due n k
+
+  acts_kept : (old new : Core) → Acts reading script old new → Holds old → Holds new
   acts_kept old new a k =
       elim a.1 [
-        | inl h ↦ subst (Kept meaning reading script) (sym h.2) (hand_over_kept meaning reading script old h.0 h.1 k)
+        | inl h ↦ subst Holds (sym h.2) (hand_over_kept meaning reading script old h.0 h.1 k.0, hand_over_queries meaning script old k.1)
         | inr b ↦ elim b [
-          | inl h ↦ turn_kept old h.1 h.2 new h.3 h.0 h.4 k
-          | inr h ↦ subst (Kept meaning reading script) (sym h.3) (end_kept meaning reading script old k)
+          | inl h ↦ let now = turn_kept old h.1 h.2 new h.3 h.0 h.4 k.1 k.0 in (now, turn_queries meaning reading script lawful old h.1 h.2 new h.3 h.0 h.4 k.0 now k.1)
+          | inr h ↦ subst Holds (sym h.3) (end_kept meaning reading script old k.0, end_queries meaning script old k.1)
         ]
       ]
 
+  others_hold : (old : Core) (e : Event) (new : Core) → is_of_app e ≡ false → Step meaning reading script old e new → Holds old → Holds new
+  others_hold old e new h p k = (others_kept meaning reading script old e new h p k.0, others_queries meaning reading script old e new h p k.0 k.1)
+
   -- each step keeps it
-  pub step_kept : (old : Core) (e : Event) (new : Core) → Step meaning reading script old e new → Kept meaning reading script old → Kept meaning reading script new
+  pub step_kept : (old : Core) (e : Event) (new : Core) → Step meaning reading script old e new → Holds old → Holds new
   step_kept old (App n) new p k =
-      let mid = posts_kept meaning reading script n old p.2 p.3 k in
+      let mid : Holds (with_fence n p.2) = (posts_kept meaning reading script n old p.2 p.3 k.0, posts_queries meaning reading script lawful n old p.2 p.3 k.0 k.1) in
       elim p.4 [
         | inl a ↦ acts_kept (with_fence n p.2) new a mid
-        | inr h ↦ subst (Kept meaning reading script) (sym h.2) mid
+        | inr h ↦ subst Holds (sym h.2) mid
       ]
-  step_kept old Cs new p k = others_kept meaning reading script old Cs new refl p k
-  step_kept old (Pipe j) new p k = others_kept meaning reading script old (Pipe j) new refl p k
-  step_kept old Submit new p k = others_kept meaning reading script old Submit new refl p k
-  step_kept old Accept new p k = others_kept meaning reading script old Accept new refl p k
-  step_kept old (Run j) new p k = others_kept meaning reading script old (Run j) new refl p k
-  step_kept old Complete new p k = others_kept meaning reading script old Complete new refl p k
-  step_kept old Finish new p k = others_kept meaning reading script old Finish new refl p k
-  step_kept old (Come_home block place) new p k = others_kept meaning reading script old (Come_home block place) new refl p k
+  step_kept old Cs new p k = others_hold old Cs new refl p k
+  step_kept old (Pipe j) new p k = others_hold old (Pipe j) new refl p k
+  step_kept old Submit new p k = others_hold old Submit new refl p k
+  step_kept old Accept new p k = others_hold old Accept new refl p k
+  step_kept old (Run j) new p k = others_hold old (Run j) new refl p k
+  step_kept old Complete new p k = others_hold old Complete new refl p k
+  step_kept old Finish new p k = others_hold old Finish new refl p k
+  step_kept old (Come_home block place) new p k = others_hold old (Come_home block place) new refl p k
 
-  pub chain_kept : (events : List Event) (old new : Core) → Chain meaning reading script old events new → Kept meaning reading script old → Kept meaning reading script new
-  chain_kept [] old new h k = subst (Kept meaning reading script) (sym h) k
+  pub chain_kept : (events : List Event) (old new : Core) → Chain meaning reading script old events new → Holds old → Holds new
+  chain_kept [] old new h k = subst Holds (sym h) k
   chain_kept (e ∷ es) old new h k = chain_kept es h.0 new h.2 (step_kept old e h.0 h.1 k)
 
 -- each state that a chain of steps reaches
-pub reached_kept : (meaning : Meaning) (reading : Reading) (script : Script) → IsLawful meaning script → AsksNoCount script → (events : List Event) (new : Core)
-    → Chain meaning reading script (start script) events new → Kept meaning reading script new
-reached_kept meaning reading script lawful uncounted events new h = chain_kept meaning reading script lawful uncounted events (start script) new h (start_kept meaning reading script)
+reached : (meaning : Meaning) (reading : Reading) (script : Script) → IsLawful meaning script → (events : List Event) (new : Core)
+    → Chain meaning reading script (start script) events new → Kept meaning reading script new × QueriesRight meaning script new
+reached meaning reading script lawful events new h = chain_kept meaning reading script lawful events (start script) new h (start_kept meaning reading script, start_queries meaning script)
 
--- and the end of a run of the core that is stepped
-pub run_kept : (meaning : Meaning) (script : Script) → IsLawful meaning script → AsksNoCount script → (schedule : List ℕ) (new : Core) → IsRun meaning script schedule new → Kept meaning Any_choices script new
-run_kept meaning script lawful uncounted schedule new h = let f = run_free meaning script schedule new h in reached_kept meaning Any_choices script lawful uncounted f.0 new f.1
+pub reached_kept : (meaning : Meaning) (reading : Reading) (script : Script) → IsLawful meaning script → (events : List Event) (new : Core)
+    → Chain meaning reading script (start script) events new → Kept meaning reading script new
+reached_kept meaning reading script lawful events new h = (reached meaning reading script lawful events new h).0
+
+pub reached_queries : (meaning : Meaning) (reading : Reading) (script : Script) → IsLawful meaning script → (events : List Event) (new : Core)
+    → Chain meaning reading script (start script) events new → QueriesRight meaning script new
+reached_queries meaning reading script lawful events new h = (reached meaning reading script lawful events new h).1
+
+-- and the end of each run of the core that is stepped
+pub run_kept : (meaning : Meaning) (script : Script) → IsLawful meaning script → (schedule : List ℕ) (new : Core) → IsRun meaning script schedule new → Kept meaning Any_choices script new
+run_kept meaning script lawful schedule new h = let f = run_free meaning script schedule new h in reached_kept meaning Any_choices script lawful f.0 new f.1
 
 -- Blocks that are taken -------------------------------------------------------------------------------------------------------------
 

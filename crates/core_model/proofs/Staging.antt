@@ -183,7 +183,7 @@ module _ (meaning : Meaning) (reading : Reading) (script : Script) (lawful : IsL
   abbrev memory : Memory
   memory = put source (number_at bytes) (left_by meaning old).memory
 
-  left_written : left_by meaning binding ≡ world_step meaning (new_entry taken (Host_write source bytes)) (left_by meaning old)
+  pub left_written : left_by meaning binding ≡ world_step meaning (new_entry taken (Host_write source bytes)) (left_by meaning old)
   left_written = written_world meaning script taken taken_opened call source bytes long filled old_at empty
 
   agree : (r b i : ℕ) → old.blocks r ≡ Some b → i < script.size r → memory b i ≡ before.bytes r i
@@ -293,7 +293,7 @@ module _ (meaning : Meaning) (reading : Reading) (script : Script) (lawful : IsL
         ))
         may_touch is_named
 
-    left_now : left_by meaning done ≡ world_step meaning (command_entry d (open_number old) (epoch_after (caused old.recent d (least_conflict old.recent d)) old.epoch))
+    pub left_now : left_by meaning done ≡ world_step meaning (command_entry d (open_number old) (epoch_after (caused old.recent d (least_conflict old.recent d)) old.epoch))
         (world_step meaning (new_entry taken (Host_write source bytes)) (left_by meaning old))
     left_now =
         commanded_world meaning script binding binding_opened d (least_conflict old.recent d) refl empty

@@ -137,7 +137,7 @@ module _ (meaning : Meaning) (reading : Reading) (script : Script) (lawful : IsL
       list_any-append (λ r. r.block == b) old.open_chunk.bound blocks_bound ∙ or_right (has_block b old.open_chunk.bound) (has_block b blocks_bound) (bound_named blocks_bound b i (on_block b i h).2))
 
   -- what is left now
-  left_now : left_by meaning done ≡ world_step meaning (command_entry d (open_number old) (epoch_after (caused old.recent d (least_conflict old.recent d)) old.epoch)) (left_by meaning old)
+  pub left_now : left_by meaning done ≡ world_step meaning (command_entry d (open_number old) (epoch_after (caused old.recent d (least_conflict old.recent d)) old.epoch)) (left_by meaning old)
   left_now = commanded_world meaning script binding bound_opened d (least_conflict old.recent d) refl empty
 
   done_meets : Meets meaning script done (turn_in_order meaning script turn before)

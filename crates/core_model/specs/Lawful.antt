@@ -160,8 +160,3 @@ pub record IsLawful (meaning : Meaning) (script : Script) : Type 0 where
       → (b i : ℕ) → is_touched (play_touches play) b i ≡ true → in_ranges bound b i ≡ true
   pub classes : (buffer : ℕ) → ClassFits script buffer (script.class buffer)
   pub staging : (buffer : ℕ) → script.is_staging buffer ≡ true → script.class buffer ≡ None
-
--- no call of the script asks for the count of a query
-abbrev pub AsksNoCount : Script → Type 0
-AsksNoCount script =
-    (front : List Turn) (call query : ℕ) (used : Option ℕ) (may_pend : Bool) (back : List Turn) → script.turns ≡ front ++ Asked call (Count query) used may_pend ∷ back → ⊥

@@ -23,3 +23,4 @@ pub mod RunReads
 pub mod Listed
 pub mod Invariant
 pub mod Kept
+pub mod Queries

@@ -14,11 +14,12 @@ ghost use Rattle.vk_types.specs.Allowed.{IsAllowed, outcome};
 ghost use Rattle.vk_types.specs.Lists.{IsReordering};
 ghost use Rattle.vk_types.specs.Memory.{zeros};
 ghost use Rattle.vk_types.specs.RunListing.{IsRunListing, SameOrder};
-ghost use Rattle.core_model.specs.Script.{Play, Ask, Bytes, Constant, Turn, Asked, Item, is_plain, Script};
+ghost use Rattle.core_model.specs.Script.{Play, Ask, Bytes, Count, Constant, Turn, Asked, Item, is_plain, Script, at_start, in_order};
 ghost use Rattle.core_model.specs.Chunking.{is_due, cut, chunks};
 ghost use Rattle.core_model.specs.CoreState.{Page, Pool, Core, start, flat, rests, on_device, listed, done, Still_said, End_said};
 ghost use Rattle.core_model.specs.Adding.{with_turn, with_reply};
 ghost use Rattle.core_model.specs.Readings.{Reading, Any_choices, First_choices, may_hand_over};
+ghost use Rattle.core_model.specs.OtherParts.{sum_from};
 ghost use Rattle.core_model.specs.AppActs.{TakesTurn, is_finished, used_or_zero, handed_over};
 ghost use Rattle.core_model.specs.CoreStep.{Event, is_of_app, Step, CoreStep, Chain};
 ghost use Rattle.core_model.specs.Free.{FreeSteps, FreeRun};
@@ -29,16 +30,16 @@ ghost use Rattle.core_model.specs.Playing.{HasBlock};
 ghost use Rattle.core_model.specs.Placing.{PageChoice, Staged, Stages};
 ghost use Rattle.core_model.specs.RunReads.{ReadsStaging, listed_entries};
 ghost use Rattle.core_model.specs.Listed.{plain_entries};
-ghost use Rattle.core_model.specs.Lawful.{IsLawful, AsksNoCount};
+ghost use Rattle.core_model.specs.Lawful.{IsLawful};
 ghost use Rattle.core_model.specs.Invariant.{turns_of, handed, commands_of, IsSized, IsBounded, IsAsked, IsRight, Good};
 ghost use Rattle.core_model.specs.Kept.{Kept};
+ghost use Rattle.core_model.specs.Queries.{count_in_order, commands_in, marks_from, is_end, newest_of, QueriesRight};
 ghost use Rattle.core_model.specs.WorkedLogs.{no_shaders, update_copy_map, PlaysUpdateCopyMap, PlaysFiveBuffers};
 
 /// What the definitions give for two small logs: the whole run, with its replies and its listing. The first log is all that
 /// the checks of the calls make sure of, so what is asked of a script can be met.
 pub fn worked_logs()
     ensures lawful { IsLawful no_shaders update_copy_map }
-    ensures uncounted { AsksNoCount update_copy_map }
     ensures update_copy_map { PlaysUpdateCopyMap }
     ensures five_buffers { PlaysFiveBuffers }
 {}
@@ -66,7 +67,8 @@ pub fn counts_order_runs()
 
 /// The invariant of runs, with what holds beside it of blocks, pages and bound bytes, holds as one begins, and these steps keep
 /// it, by any choice and in each reading, in a lawful script: App takes posts, hands a chunk over, goes past calls that add no
-/// entry, answers a call as pending, by a constant or by bytes, takes any item, or ends; and each step of each other part.
+/// entry, answers a call as pending, by a constant, by bytes or by a count, takes any item, or ends; and each step of each other
+/// part. Of an answer with a count this rests on what holds of queries.
 pub fn steps_keep_the_invariant()
     ensures start { (meaning : Meaning) (reading : Reading) (script : Script) → Kept meaning reading script (start script) }
     ensures posts { (meaning : Meaning) (reading : Reading) (script : Script) (n : ℕ) (old mid : Core)
@@ -93,6 +95,11 @@ pub fn steps_keep_the_invariant()
         → old.future ≡ Asked call (Bytes source) used may_pend ∷ turns → is_due script old.open_chunk.turns old.future ≡ false
         → TakesTurn reading script (Asked call (Bytes source) used may_pend) turns old new
         → Kept meaning reading script old → Kept meaning reading script new }
+    ensures counts { (meaning : Meaning) (reading : Reading) (script : Script) → IsLawful meaning script → (old : Core)
+        (call query : ℕ) (used : Option ℕ) (may_pend : Bool) (turns : List Turn) (new : Core)
+        → old.future ≡ Asked call (Count query) used may_pend ∷ turns → is_due script old.open_chunk.turns old.future ≡ false
+        → TakesTurn reading script (Asked call (Count query) used may_pend) turns old new
+        → QueriesRight meaning script old → Kept meaning reading script old → Kept meaning reading script new }
     ensures items { (meaning : Meaning) (reading : Reading) (script : Script) → IsLawful meaning script → (old : Core)
         (call item : ℕ) (ends : Bool) (play : Play) (bound : List Range) (turns : List Turn) (new : Core)
         → old.future ≡ Item call item ends play bound ∷ turns → is_due script old.open_chunk.turns old.future ≡ false
@@ -105,32 +112,68 @@ pub fn steps_keep_the_invariant()
         → Kept meaning reading script old → Kept meaning reading script new }
 {}
 
-/// The law of runs, of a lawful script whose calls ask for no count of a query. The invariant holds in every state that steps
-/// reach from the start, by any choices, in each reading and in any order, and at the end of each run of the core that is
-/// stepped, by any schedule. So there each answer is what the calls before it give one after another, and each call that was
-/// answered as pending has a use that is not finished; no command that is not finished touches a block that may be handed out;
-/// the listing is covered, and all orders that it allows agree; and what the device ran keeps what is ordered.
+/// Laws of queries in order. The invocations so far are the sum over the commands that the turns so far make, which are numbered
+/// 1, 2, 3, .. over the whole script; and the count of a query is what its last End left: the sum over the commands from the one
+/// that its Begin names to the one before the End's.
+pub fn counts_are_sums()
+    ensures totals { (meaning : Meaning) (script : Script) (front back : List Turn) → script.turns ≡ front ++ back
+        → (in_order meaning script front at_start).total ≡ sum_from (count_in_order meaning script) 1 (commands_in front) }
+    ensures counts { (meaning : Meaning) (script : Script) (front back : List Turn) → script.turns ≡ front ++ back → (query : ℕ)
+        → (in_order meaning script front at_start).count query ≡ newest_of is_end (count_in_order meaning script) [] (marks_from 0 front) query 0 }
+{}
+
+/// What holds of queries holds as a run begins, and these steps keep it, in a lawful script: App takes posts, hands a chunk over,
+/// takes any turn, or ends; and each step of each other part. So in every state commands are numbered as the turns make them,
+/// each mark of a query names the next command at its place, each message has the values of its chunk's Ends by the counts
+/// that the commands have in order, and what App knows of a query is what its last End leaves of those that are finished.
+pub fn steps_keep_the_queries()
+    ensures start { (meaning : Meaning) (script : Script) → QueriesRight meaning script (start script) }
+    ensures posts { (meaning : Meaning) (reading : Reading) (script : Script) → IsLawful meaning script → (n : ℕ) (old mid : Core)
+        → TakesPosts n old mid → Kept meaning reading script old
+        → QueriesRight meaning script old → QueriesRight meaning script (with_fence n mid) }
+    ensures hand_over { (meaning : Meaning) (script : Script) (old : Core)
+        → QueriesRight meaning script old → QueriesRight meaning script (handed_over old) }
+    ensures turns { (meaning : Meaning) (reading : Reading) (script : Script) → IsLawful meaning script → (old : Core)
+        (turn : Turn) (turns : List Turn) (new : Core)
+        → old.future ≡ turn ∷ turns → is_due script old.open_chunk.turns old.future ≡ false → TakesTurn reading script turn turns old new
+        → Kept meaning reading script old → Kept meaning reading script new
+        → QueriesRight meaning script old → QueriesRight meaning script new }
+    ensures ended { (meaning : Meaning) (script : Script) (old : Core)
+        → QueriesRight meaning script old → QueriesRight meaning script (with_reply End_said (record old { ended = true })) }
+    ensures others { (meaning : Meaning) (reading : Reading) (script : Script) (old : Core) (e : Event) (new : Core)
+        → is_of_app e ≡ false → Step meaning reading script old e new → Kept meaning reading script old
+        → QueriesRight meaning script old → QueriesRight meaning script new }
+{}
+
+/// The law of runs, of a lawful script. The invariant, and what holds of queries, hold in every state that steps reach from the
+/// start, by any choices, in each reading and in any order, and the invariant at the end of each run of the core that is stepped,
+/// by any schedule. So there each answer, of bytes or of a query's count, is what the calls before it give one after another,
+/// and each call that was answered as pending has a use that is not finished; no command that is not finished touches a block
+/// that may be handed out; the listing is covered, and all orders that it allows agree; and what the device ran keeps what is
+/// ordered.
 pub fn runs_keep_the_invariant()
-    ensures steps { (meaning : Meaning) (reading : Reading) (script : Script) → IsLawful meaning script → AsksNoCount script
+    ensures steps { (meaning : Meaning) (reading : Reading) (script : Script) → IsLawful meaning script
         → (events : List Event) (core : Core) → Chain meaning reading script (start script) events core → Kept meaning reading script core }
-    ensures runs { (meaning : Meaning) (script : Script) → IsLawful meaning script → AsksNoCount script
+    ensures runs { (meaning : Meaning) (script : Script) → IsLawful meaning script
         → (schedule : List ℕ) (core : Core) → IsRun meaning script schedule core → Kept meaning Any_choices script core }
-    ensures replies { (meaning : Meaning) (script : Script) → IsLawful meaning script → AsksNoCount script
+    ensures queries { (meaning : Meaning) (reading : Reading) (script : Script) → IsLawful meaning script
+        → (events : List Event) (core : Core) → Chain meaning reading script (start script) events core → QueriesRight meaning script core }
+    ensures replies { (meaning : Meaning) (script : Script) → IsLawful meaning script
         → (schedule : List ℕ) (core : Core) → IsRun meaning script schedule core → AllByRecursion (IsRight meaning script) core.replies }
-    ensures pending { (meaning : Meaning) (script : Script) → IsLawful meaning script → AsksNoCount script
+    ensures pending { (meaning : Meaning) (script : Script) → IsLawful meaning script
         → (schedule : List ℕ) (core : Core) → IsRun meaning script schedule core → (n finished : ℕ) → pending core n ≡ Some finished
         → (ask : Ask) × (used : ℕ) × IsAsked script n ask (Some used) × (finished < used) }
-    ensures idle { (meaning : Meaning) (reading : Reading) (script : Script) → IsLawful meaning script → AsksNoCount script
+    ensures idle { (meaning : Meaning) (reading : Reading) (script : Script) → IsLawful meaning script
         → (events : List Event) (core : Core) → Chain meaning reading script (start script) events core → FreeIsIdle core }
-    ensures covered { (meaning : Meaning) (reading : Reading) (script : Script) → IsLawful meaning script → AsksNoCount script
+    ensures covered { (meaning : Meaning) (reading : Reading) (script : Script) → IsLawful meaning script
         → (events : List Event) (core : Core) → Chain meaning reading script (start script) events core
         → Covered (core.listing ++ core.open_chunk.ops) }
-    ensures orders { (meaning : Meaning) (reading : Reading) (script : Script) → IsLawful meaning script → AsksNoCount script
+    ensures orders { (meaning : Meaning) (reading : Reading) (script : Script) → IsLawful meaning script
         → (events : List Event) (core : Core) → Chain meaning reading script (start script) events core
         → (order : List ℕ) → IsAllowed (core.listing ++ core.open_chunk.ops) order
         → outcome meaning core.contents (core.listing ++ core.open_chunk.ops) order
         ≡ outcome meaning core.contents (core.listing ++ core.open_chunk.ops) (acts (core.listing ++ core.open_chunk.ops)) }
-    ensures ran { (meaning : Meaning) (reading : Reading) (script : Script) → IsLawful meaning script → AsksNoCount script
+    ensures ran { (meaning : Meaning) (reading : Reading) (script : Script) → IsLawful meaning script
         → (events : List Event) (core : Core) → Chain meaning reading script (start script) events core
         → EntriesKeep (core.ran ++ rests core.accepted) }
 {}

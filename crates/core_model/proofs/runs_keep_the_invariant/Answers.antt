@@ -2,18 +2,19 @@ use Rattle.std.proofs.Common.{◌++◌}
 use Rattle.vk_types.proofs.Law.{law_of_covered}
 use Rattle.core_model.proofs.Idle.{free_is_idle}
 use Rattle.core_model.proofs.Steps.{listing_is_covered}
-use Rattle.core_model.proofs.RunsKept.{reached_kept, run_kept, pending_right}
+use Rattle.core_model.proofs.RunsKept.{reached_kept, reached_queries, run_kept, pending_right}
 use Rattle.core_model.proofs.runs_keep_the_invariant.Goals as goal
 
 pub returns : goal.returns
 returns c = record {
   steps = reached_kept;
   runs = run_kept;
-  replies = λ meaning script lawful uncounted schedule core r. (run_kept meaning script lawful uncounted schedule core r).good.replies;
-  pending = λ meaning script lawful uncounted schedule core r n d e. pending_right meaning script core.replies (run_kept meaning script lawful uncounted schedule core r).good.replies n d e;
-  idle = λ meaning reading script lawful uncounted events core h. free_is_idle meaning reading script core (reached_kept meaning reading script lawful uncounted events core h).good;
-  covered = λ meaning reading script lawful uncounted events core h. listing_is_covered meaning reading script core (reached_kept meaning reading script lawful uncounted events core h).good;
-  orders = λ meaning reading script lawful uncounted events core h.
-      law_of_covered meaning core.contents (core.listing ++ core.open_chunk.ops) (listing_is_covered meaning reading script core (reached_kept meaning reading script lawful uncounted events core h).good);
-  ran = λ meaning reading script lawful uncounted events core h. (reached_kept meaning reading script lawful uncounted events core h).good.sound.order;
+  queries = reached_queries;
+  replies = λ meaning script lawful schedule core r. (run_kept meaning script lawful schedule core r).good.replies;
+  pending = λ meaning script lawful schedule core r n d e. pending_right meaning script core.replies (run_kept meaning script lawful schedule core r).good.replies n d e;
+  idle = λ meaning reading script lawful events core h. free_is_idle meaning reading script core (reached_kept meaning reading script lawful events core h).good;
+  covered = λ meaning reading script lawful events core h. listing_is_covered meaning reading script core (reached_kept meaning reading script lawful events core h).good;
+  orders = λ meaning reading script lawful events core h.
+      law_of_covered meaning core.contents (core.listing ++ core.open_chunk.ops) (listing_is_covered meaning reading script core (reached_kept meaning reading script lawful events core h).good);
+  ran = λ meaning reading script lawful events core h. (reached_kept meaning reading script lawful events core h).good.sound.order;
 }

@@ -2,6 +2,7 @@ use Rattle.core_model.proofs.KeptSteps.{start_kept, posts_kept, hand_over_kept, 
 use Rattle.core_model.proofs.KeptActs.{items_kept}
 use Rattle.core_model.proofs.KeptTurns.{plain_kept, pending_kept, constant_kept, end_kept}
 use Rattle.core_model.proofs.Reading.{asked_bytes_kept}
+use Rattle.core_model.proofs.QueriesKept.{count_kept}
 use Rattle.core_model.proofs.steps_keep_the_invariant.Goals as goal
 
 pub returns : goal.returns
@@ -13,6 +14,7 @@ returns c = record {
   pending = pending_kept;
   constants = constant_kept;
   bytes = asked_bytes_kept;
+  counts = count_kept;
   items = items_kept;
   ended = end_kept;
   others = others_kept;
