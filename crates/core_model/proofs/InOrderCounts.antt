@@ -4,7 +4,7 @@ use Rattle.vk_types.specs.Memory.{number_at}
 use Rattle.vk_types.specs.Effects.{Meaning}
 use Rattle.core_model.specs.Script.{Create, Discard, No_overwrite, Stage, Command, Destroy, Create_shader, Mark_query, Set_state, Turn, Refused, Passed, Flushed, Asked, Item, Script, InOrder, at_start, turn_in_order, in_order}
 use Rattle.core_model.specs.OtherParts.{sum_from}
-use Rattle.core_model.specs.Queries.{turn_runs, runs_in_order, count_in_order, made_by, commands_in}
+use Rattle.core_model.specs.Queries.{turn_runs, runs_in_order, count_in_order, commands_by, commands_in}
 
 -- Sums ----------------------------------------------------------------------------------------------------------------
 
@@ -55,10 +55,10 @@ sum_between f first last = elim (by_order first last) [
 -- A turn makes a command or none ------------------------------------------------------------------------------------------
 
 abbrev RunsNone : Meaning → Script → Turn → InOrder → Type 0
-RunsNone meaning script t s = (made_by t ≡ 0) × (turn_runs meaning t s ≡ []) × ((turn_in_order meaning script t s).total ≡ s.total)
+RunsNone meaning script t s = (commands_by t ≡ 0) × (turn_runs meaning t s ≡ []) × ((turn_in_order meaning script t s).total ≡ s.total)
 
 abbrev RunsOne : Meaning → Script → Turn → InOrder → Type 0
-RunsOne meaning script t s = (x : ℕ) × (made_by t ≡ 1) × (turn_runs meaning t s ≡ x ∷ []) × ((turn_in_order meaning script t s).total ≡ s.total + x)
+RunsOne meaning script t s = (x : ℕ) × (commands_by t ≡ 1) × (turn_runs meaning t s ≡ x ∷ []) × ((turn_in_order meaning script t s).total ≡ s.total + x)
 
 runs_cases : (meaning : Meaning) (script : Script) (t : Turn) (s : InOrder) → RunsNone meaning script t s ⊎ RunsOne meaning script t s
 runs_cases meaning script (Refused call) s = inl (refl, refl, refl)

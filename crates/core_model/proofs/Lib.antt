@@ -67,3 +67,5 @@ pub mod QueryMoves
 pub mod QueryTurns
 pub mod CountsKept
 pub mod QueriesKept
+pub mod MarksInTurn
+pub mod EndValues

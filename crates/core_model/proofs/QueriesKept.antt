@@ -13,7 +13,7 @@ use Rattle.core_model.specs.Worlds.{empty, run_world}
 use Rattle.core_model.specs.Lawful.{IsLawful}
 use Rattle.core_model.specs.Invariant.{turns_of, Good}
 use Rattle.core_model.specs.Kept.{Kept}
-use Rattle.core_model.specs.Queries.{count_in_order, made_by, commands_in, turn_marks, marks_from, IsMarked, AreMarked, ValuesRight, newest_of, ends_by, QueriesRight}
+use Rattle.core_model.specs.Queries.{count_in_order, commands_by, commands_in, turn_marks, marks_from, IsMarked, AreMarked, ValuesRight, newest_of, ends_by, QueriesRight}
 use Rattle.core_model.proofs.Opened.{listed_open}
 use Rattle.core_model.proofs.Turning.{segments_handed, answered_good}
 use Rattle.core_model.proofs.KeptTurns.{turn_traced, pending_kept}
@@ -25,22 +25,22 @@ use Rattle.core_model.proofs.QueryTurns.{Adds, takes_adds}
 use Rattle.core_model.proofs.QueryMoves.{queries_moved}
 use Rattle.core_model.proofs.CountsKept.{CountsStay, counts_kept}
 
-made_few : (t : Turn) → (made_by t ≡ 0) ⊎ (made_by t ≡ 1)
-made_few (Refused call) = inl refl
-made_few (Passed call) = inl refl
-made_few (Flushed call) = inl refl
-made_few (Asked call ask used may_pend) = inl refl
-made_few (Item call item ends (Create buffer bytes) bound) = inl refl
-made_few (Item call item ends (Discard buffer from bytes) bound) = inl refl
-made_few (Item call item ends (No_overwrite buffer from bytes) bound) = inl refl
-made_few (Item call item ends (Stage [] target skip) bound) = inl refl
-made_few (Item call item ends (Stage (b ∷ bs) None skip) bound) = inl refl
-made_few (Item call item ends (Stage (b ∷ bs) (Some target) skip) bound) = inr refl
-made_few (Item call item ends (Command w skip) bound) = inr refl
-made_few (Item call item ends (Destroy buffer) bound) = inl refl
-made_few (Item call item ends Create_shader bound) = inl refl
-made_few (Item call item ends (Mark_query query begins) bound) = inl refl
-made_few (Item call item ends Set_state bound) = inl refl
+by_few : (t : Turn) → (commands_by t ≡ 0) ⊎ (commands_by t ≡ 1)
+by_few (Refused call) = inl refl
+by_few (Passed call) = inl refl
+by_few (Flushed call) = inl refl
+by_few (Asked call ask used may_pend) = inl refl
+by_few (Item call item ends (Create buffer bytes) bound) = inl refl
+by_few (Item call item ends (Discard buffer from bytes) bound) = inl refl
+by_few (Item call item ends (No_overwrite buffer from bytes) bound) = inl refl
+by_few (Item call item ends (Stage [] target skip) bound) = inl refl
+by_few (Item call item ends (Stage (b ∷ bs) None skip) bound) = inl refl
+by_few (Item call item ends (Stage (b ∷ bs) (Some target) skip) bound) = inr refl
+by_few (Item call item ends (Command w skip) bound) = inr refl
+by_few (Item call item ends (Destroy buffer) bound) = inl refl
+by_few (Item call item ends Create_shader bound) = inl refl
+by_few (Item call item ends (Mark_query query begins) bound) = inl refl
+by_few (Item call item ends Set_state bound) = inl refl
 
 -- sums that agree up to a place, and with one number more, agree there
 next_same : (f g : ℕ → ℕ) (k : ℕ) → ((m : ℕ) → m ≤ k → f m ≡ g m) → sum_from f 1 (k + 1) ≡ sum_from g 1 (k + 1) → f (suc k) ≡ g (suc k)
@@ -54,7 +54,7 @@ next_same f g k h e =
     omega (arith, e, front, a, b, c, d)
 
 module _ (meaning : Meaning) (reading : Reading) (script : Script) (old new : Core) (t : Turn) (turns : List Turn) (e : old.future ≡ t ∷ turns) (k : Kept meaning reading script old)
-    (g : Good meaning reading script new) (a : Adds t (made_by t) (turn_marks old.commands t) old new) (stay : CountsStay meaning old new) (q : QueriesRight meaning script old) where
+    (g : Good meaning reading script new) (a : Adds t (commands_by t) (turn_marks old.commands t) old new) (stay : CountsStay meaning old new) (q : QueriesRight meaning script old) where
   abbrev f : ℕ → ℕ
   f = count_in_order meaning script
 
@@ -109,7 +109,7 @@ module _ (meaning : Meaning) (reading : Reading) (script : Script) (old new : Co
       ap (λ l. (run_world meaning l empty).counts n) (listed_open new) ∙ stay n l ∙ ap (λ l. (run_world meaning l empty).counts n) (sym (listed_open old)) ∙ q.counts n l
 
   -- and its own what it runs in order
-  new_count : made_by t ≡ 1 → (run_world meaning (listed new) empty).counts (suc old.commands) ≡ f (suc old.commands)
+  new_count : commands_by t ≡ 1 → (run_world meaning (listed new) empty).counts (suc old.commands) ≡ f (suc old.commands)
   new_count one =
       let counts = (run_world meaning (listed new) empty).counts in
       let n : new.commands ≡ old.commands + 1 = a.commands ∙ ap (λ m. old.commands + m) one in
@@ -119,7 +119,7 @@ module _ (meaning : Meaning) (reading : Reading) (script : Script) (old new : Co
   all_counts : (n : ℕ) → n ≤ new.commands → (run_world meaning (listed new) empty).counts n ≡ f n
   all_counts n l = elim (cases_lt old.commands n) [
     | inr h ↦ old_counts n h
-    | inl h ↦ elim (made_few t) [
+    | inl h ↦ elim (by_few t) [
       | inl none ↦ let c = a.commands in absurd (let z : ⊥ = omega (arith, h, l, c, none) in z)
       | inr one ↦
           let c = a.commands in

@@ -12,7 +12,7 @@ use Rattle.core_model.specs.CoreState.{Segment, last_finished}
 use Rattle.core_model.specs.AppActs.{is_finished}
 use Rattle.core_model.specs.Lawful.{ends_query, last_end, IsLawful}
 use Rattle.core_model.specs.Invariant.{turns_of}
-use Rattle.core_model.specs.Queries.{made_by, turn_marks, marks_from, is_end}
+use Rattle.core_model.specs.Queries.{commands_by, turn_marks, marks_from, is_end}
 use Rattle.core_model.proofs.LastUses.{after_segments, all_later}
 
 module _ (meaning : Meaning) (script : Script) (lawful : IsLawful meaning script) where
@@ -99,7 +99,7 @@ pub ends_low : (q d : ℕ) (ts : List Turn) (n : ℕ) (found : Option ℕ) → P
     → AllByRecursion (λ m. (is_end m && (q == m.query)) ≡ true → m.call ≤ d) (marks_from n ts)
 ends_low q d [] n found h fin = tt
 ends_low q d (t ∷ ts) n found h fin =
-    all_append (λ m. (is_end m && (q == m.query)) ≡ true → m.call ≤ d) (turn_marks n t) (marks_from (n + made_by t) ts)
+    all_append (λ m. (is_end m && (q == m.query)) ≡ true → m.call ≤ d) (turn_marks n t) (marks_from (n + commands_by t) ts)
     (all_map (λ m. (is_end m && (q == m.query)) ≡ true → (ends_query q t ≡ true) × (m.call ≡ call_of t)) (λ m. (is_end m && (q == m.query)) ≡ true → m.call ≤ d)
     (λ m k e.
     let z = k e in
@@ -107,4 +107,4 @@ ends_low q d (t ∷ ts) n found h fin =
     let c = z.1 in
     omega (arith, l, c))
     (turn_marks n t) (mark_ends q n t))
-    (ends_low q d ts (n + made_by t) (cond (ends_query q t) (Some (call_of t)) found) h.1 fin)
+    (ends_low q d ts (n + commands_by t) (cond (ends_query q t) (Some (call_of t)) found) h.1 fin)

@@ -18,7 +18,7 @@ use Rattle.core_model.specs.Adding.{with_turn, with_write, fenced, gives_block, 
 use Rattle.core_model.specs.Owners.{retired}
 use Rattle.core_model.specs.Playing.{HasBlock}
 use Rattle.core_model.specs.AppActs.{with_read, answer, TakesTurn}
-use Rattle.core_model.specs.Queries.{made_by, turn_marks, act_is_above}
+use Rattle.core_model.specs.Queries.{commands_by, turn_marks, act_is_above}
 use Rattle.core_model.proofs.Giving.{has_parts}
 
 abbrev pub OpenAbove : ℕ → Core → Type 0
@@ -198,7 +198,7 @@ asked_adds script call (Constant value) used old core t a = rest_adds (answer ca
 
 plays_adds : (reading : Reading) (script : Script) (call item : ℕ) (ends : Bool) (play : Play) (bound : List Range) (turns : List Turn) (old new : Core)
     → TakesTurn reading script (Item call item ends play bound) turns old new
-    → Adds (Item call item ends play bound) (made_by (Item call item ends play bound)) (turn_marks old.commands (Item call item ends play bound)) old new
+    → Adds (Item call item ends play bound) (commands_by (Item call item ends play bound)) (turn_marks old.commands (Item call item ends play bound)) old new
 plays_adds reading script call item ends (Create buffer bytes) bound turns old new p =
     let t = Item call item ends (Create buffer bytes) bound in
     let a = then_same (turn_adds t turns old) (same_block reading script buffer p.0 (with_turn t turns old) p.1 p.2) in
@@ -256,7 +256,7 @@ plays_adds reading script call item ends Set_state bound turns old new p =
     subst (Adds t 0 [] old) (sym p) (let z = (turn_adds t turns old) in
     record { past = z.past; taken = z.taken; later = z.later; messages = z.messages; values = z.values; turns = z.turns; queries = z.queries; commands = z.commands; above = z.above })
 
-pub takes_adds : (reading : Reading) (script : Script) (t : Turn) (turns : List Turn) (old new : Core) → TakesTurn reading script t turns old new → Adds t (made_by t) (turn_marks old.commands t) old new
+pub takes_adds : (reading : Reading) (script : Script) (t : Turn) (turns : List Turn) (old new : Core) → TakesTurn reading script t turns old new → Adds t (commands_by t) (turn_marks old.commands t) old new
 takes_adds reading script (Refused call) turns old new p = subst (Adds (Refused call) 0 [] old) (sym p) (let z = (turn_adds (Refused call) turns old) in
     record { past = z.past; taken = z.taken; later = z.later; messages = z.messages; values = z.values; turns = z.turns; queries = z.queries; commands = z.commands; above = z.above })
 takes_adds reading script (Passed call) turns old new p = subst (Adds (Passed call) 0 [] old) (sym p) (turn_adds (Passed call) turns old)

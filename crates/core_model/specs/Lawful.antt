@@ -1,9 +1,10 @@
 -- What the checks of the calls make sure of in a script: ranges fit, bound bytes and last uses are as they are said to be.
-use Rattle.std.specs.Prelude.{◌≡◌, ℕ, ◌+◌, ◌<◌, ◌≤◌, Bool, true, false, cond, ◌&&◌, ◌||◌, ◌==◌, nat_lt, List, [], ◌∷◌, ◌++◌, length, Option, Some, None}
+use Rattle.std.specs.Prelude.{◌≡◌, ℕ, ◌+◌, ◌<◌, ◌≤◌, Bool, true, false, cond, not, ◌&&◌, ◌||◌, ◌==◌, nat_lt, List, [], ◌∷◌, ◌++◌, length, Option, Some, None}
 use Rattle.std.specs.List.{list_any, AllByRecursion}
 use Rattle.dx_types.specs.declared.range.Range.{Range}
 use Rattle.vk_types.specs.declared.access.Stage.TheVariants as stage
 use Rattle.vk_types.specs.declared.touch.Touch.{Touch}
+use Rattle.vk_types.specs.declared.message.QueryMark.{QueryMark}
 use Rattle.vk_types.specs.Memory.{range}
 use Rattle.vk_types.specs.Hazards.{touch, write_access, work_touches, cond_touches, is_touched}
 use Rattle.vk_types.specs.Effects.{Meaning}
@@ -11,6 +12,7 @@ use Rattle.core_model.specs.Script.{Play, Create, Discard, No_overwrite, Stage, 
 use Rattle.core_model.specs.Chunking.{call_of, ends_call, is_entry}
 use Rattle.core_model.specs.CoreState.{class_length}
 use Rattle.core_model.specs.Owners.{in_ranges}
+use Rattle.core_model.specs.Queries.{marks_from}
 
 -- what a play's command touches, over buffers
 abbrev pub target_touches : Option Range → List Touch
@@ -93,6 +95,11 @@ UsesRightly front call (Constant value) used = (n : ℕ) × (used ≡ Some n) ×
 abbrev pub Fits : Meaning → Script → List Turn → Range → Type 0
 Fits meaning script front r = ((in_order meaning script front at_start).live r.block ≡ true) × (r.to ≤ script.size r.block)
 
+-- the query is begun behind these marks, where `was` says whether it was before
+abbrev pub is_begun : ℕ → List QueryMark → Bool → Bool
+is_begun query [] was = was
+is_begun query (m ∷ ms) was = is_begun query ms (cond (m.query == query) m.begins was)
+
 -- what a play asks of the turns before it
 abbrev pub PlaysRightly : Meaning → Script → List Turn → ℕ → Play → Type 0
 PlaysRightly meaning script front call (Create buffer bytes) = (buffer ≡ call) × (length bytes ≤ script.size buffer)
@@ -107,7 +114,8 @@ PlaysRightly meaning script front call (Stage bytes target skip) =
 PlaysRightly meaning script front call (Command w skip) = Unit {0}
 PlaysRightly meaning script front call (Destroy buffer) = (in_order meaning script front at_start).live buffer ≡ true
 PlaysRightly meaning script front call Create_shader = Unit {0}
-PlaysRightly meaning script front call (Mark_query query begins) = Unit {0}
+-- a query that is begun is ended before it is begun anew, and none is ended that is not begun
+PlaysRightly meaning script front call (Mark_query query begins) = is_begun query (marks_from 0 front) false ≡ not begins
 PlaysRightly meaning script front call Set_state = Unit {0}
 
 -- a play that may bind ranges: bytes that are staged, a command, and what a predicate skips
@@ -132,10 +140,10 @@ ClassFits script buffer (Some class) = (class < 8) × (script.size buffer ≤ cl
 abbrev pub ComesNext : Turn → Turn → Type 0
 ComesNext t u = (ends_call t ≡ true → call_of t < call_of u) × (ends_call t ≡ false → (is_entry u ≡ true) × (call_of u ≡ call_of t))
 
--- what is asked for: bytes that a live staging buffer has
+-- what is asked for: bytes that a live staging buffer has, or the count of a query that was ended and is not begun anew
 abbrev pub AsksRightly : Meaning → Script → List Turn → Ask → Type 0
 AsksRightly meaning script front (Bytes source) = Fits meaning script front source × (script.is_staging source.block ≡ true) × (source.from < source.to)
-AsksRightly meaning script front (Count query) = Unit {0}
+AsksRightly meaning script front (Count query) = ((n : ℕ) × (last_end query front None ≡ Some n)) × (is_begun query (marks_from 0 front) false ≡ false)
 AsksRightly meaning script front (Constant value) = Unit {0}
 
 pub record IsLawful (meaning : Meaning) (script : Script) : Type 0 where

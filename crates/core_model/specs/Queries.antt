@@ -43,29 +43,29 @@ abbrev pub count_in_order : Meaning → Script → ℕ → ℕ
 count_in_order meaning script n = number_at (0 ∷ runs_in_order meaning script script.turns at_start) n
 
 -- how many commands a play makes
-abbrev pub made_by_play : Play → ℕ
-made_by_play (Create buffer bytes) = 0
-made_by_play (Discard buffer from bytes) = 0
-made_by_play (No_overwrite buffer from bytes) = 0
-made_by_play (Stage [] target skip) = 0
-made_by_play (Stage (b ∷ bs) None skip) = 0
-made_by_play (Stage (b ∷ bs) (Some target) skip) = 1
-made_by_play (Command w skip) = 1
-made_by_play (Destroy buffer) = 0
-made_by_play Create_shader = 0
-made_by_play (Mark_query query begins) = 0
-made_by_play Set_state = 0
+abbrev pub commands_by_play : Play → ℕ
+commands_by_play (Create buffer bytes) = 0
+commands_by_play (Discard buffer from bytes) = 0
+commands_by_play (No_overwrite buffer from bytes) = 0
+commands_by_play (Stage [] target skip) = 0
+commands_by_play (Stage (b ∷ bs) None skip) = 0
+commands_by_play (Stage (b ∷ bs) (Some target) skip) = 1
+commands_by_play (Command w skip) = 1
+commands_by_play (Destroy buffer) = 0
+commands_by_play Create_shader = 0
+commands_by_play (Mark_query query begins) = 0
+commands_by_play Set_state = 0
 
-abbrev pub made_by : Turn → ℕ
-made_by (Refused call) = 0
-made_by (Passed call) = 0
-made_by (Flushed call) = 0
-made_by (Asked call ask used may_pend) = 0
-made_by (Item call item ends play bound) = made_by_play play
+abbrev pub commands_by : Turn → ℕ
+commands_by (Refused call) = 0
+commands_by (Passed call) = 0
+commands_by (Flushed call) = 0
+commands_by (Asked call ask used may_pend) = 0
+commands_by (Item call item ends play bound) = commands_by_play play
 
 abbrev pub commands_in : List Turn → ℕ
 commands_in [] = 0
-commands_in (t ∷ ts) = made_by t + commands_in ts
+commands_in (t ∷ ts) = commands_by t + commands_in ts
 
 -- the marks of queries that turns make, behind so many commands: each names the next command at its place
 abbrev pub play_marks : ℕ → ℕ → Play → List QueryMark
@@ -88,7 +88,7 @@ turn_marks n (Item call item ends play bound) = play_marks call n play
 
 abbrev pub marks_from : ℕ → List Turn → List QueryMark
 marks_from n [] = []
-marks_from n (t ∷ ts) = turn_marks n t ++ marks_from (n + made_by t) ts
+marks_from n (t ∷ ts) = turn_marks n t ++ marks_from (n + commands_by t) ts
 
 -- Chunks ---------------------------------------------------------------------------------------------------------------
 
@@ -127,6 +127,11 @@ is_end m = not m.begins
 -- an End, by a call up to this one
 abbrev pub ends_by : ℕ → QueryMark → Bool
 ends_by high m = not m.begins && nat_le m.call high
+
+-- the marks of one query are a Begin and an End in turn, where `begun` says whether an End comes first
+abbrev pub AreInTurn : ℕ → Bool → List QueryMark → Type 0
+AreInTurn query begun [] = Unit {0}
+AreInTurn query begun (m ∷ ms) = (m.query ≡ query → m.begins ≡ not begun) × AreInTurn query (cond (m.query == query) m.begins begun) ms
 
 -- What holds --------------------------------------------------------------------------------------------------------------
 

@@ -2,7 +2,7 @@
 //! in every run. The functions here are empty: each is named for a law, which its clauses state.
 #![tactic(auto)]
 
-ghost use Rattle.std.specs.Prelude.{◌≡◌, ℕ, ◌<◌, Bool, true, false, Option, Some, List, [], ◌∷◌, ◌++◌};
+ghost use Rattle.std.specs.Prelude.{◌≡◌, ℕ, suc, ◌+◌, ◌<◌, ◌≤◌, Bool, true, false, Option, Some, List, [], ◌∷◌, ◌++◌, length};
 ghost use Rattle.std.specs.List.{AllByRecursion};
 ghost use Rattle.dx_types.specs.declared.range.Range.{Range};
 ghost use Rattle.vk_types.specs.Covered.{Covered};
@@ -11,18 +11,19 @@ ghost use Rattle.vk_types.specs.Effects.{Meaning};
 ghost use Rattle.vk_types.specs.Entries.{EntriesCovered, EntriesKeep, run_entries, start_counts};
 ghost use Rattle.vk_types.specs.Listing.{acts};
 ghost use Rattle.vk_types.specs.Allowed.{IsAllowed, outcome};
-ghost use Rattle.vk_types.specs.Lists.{IsReordering};
+ghost use Rattle.vk_types.specs.Lists.{Pairwise, IsReordering};
 ghost use Rattle.vk_types.specs.Memory.{zeros};
 ghost use Rattle.vk_types.specs.RunListing.{IsRunListing, SameOrder};
 ghost use Rattle.core_model.specs.Script.{Play, Ask, Bytes, Count, Constant, Turn, Asked, Item, is_plain, Script, at_start, in_order};
 ghost use Rattle.core_model.specs.Chunking.{is_due, cut, chunks};
-ghost use Rattle.core_model.specs.CoreState.{Page, Pool, Core, start, flat, rests, on_device, listed, done, Still_said, End_said};
+ghost use Rattle.core_model.specs.CoreState.{Message, Page, Pool, Core, start, flat, rests, segments, on_device, listed, done, Still_said, End_said};
 ghost use Rattle.core_model.specs.Adding.{with_turn, with_reply};
 ghost use Rattle.core_model.specs.Readings.{Reading, Any_choices, First_choices, may_hand_over};
-ghost use Rattle.core_model.specs.OtherParts.{sum_from};
+ghost use Rattle.core_model.specs.OtherParts.{all_marks, sum_from};
 ghost use Rattle.core_model.specs.AppActs.{TakesTurn, is_finished, used_or_zero, handed_over};
 ghost use Rattle.core_model.specs.CoreStep.{Event, is_of_app, Step, CoreStep, Chain};
 ghost use Rattle.core_model.specs.Free.{FreeSteps, FreeRun};
+ghost use Rattle.core_model.specs.Succession.{values_after};
 ghost use Rattle.core_model.specs.Stands.{may_touch, FreeIsIdle};
 ghost use Rattle.core_model.specs.TakingPosts.{TakesPosts, with_fence};
 ghost use Rattle.core_model.specs.Runs.{IsRun, pending};
@@ -33,7 +34,7 @@ ghost use Rattle.core_model.specs.Listed.{plain_entries};
 ghost use Rattle.core_model.specs.Lawful.{IsLawful};
 ghost use Rattle.core_model.specs.Invariant.{turns_of, handed, commands_of, IsSized, IsBounded, IsAsked, IsRight, Good};
 ghost use Rattle.core_model.specs.Kept.{Kept};
-ghost use Rattle.core_model.specs.Queries.{count_in_order, commands_in, marks_from, is_end, newest_of, QueriesRight};
+ghost use Rattle.core_model.specs.Queries.{count_in_order, commands_in, marks_from, is_end, newest_of, AreInTurn, QueriesRight};
 ghost use Rattle.core_model.specs.WorkedLogs.{no_shaders, update_copy_map, PlaysUpdateCopyMap, PlaysFiveBuffers};
 
 /// What the definitions give for two small logs: the whole run, with its replies and its listing. The first log is all that
@@ -120,6 +121,29 @@ pub fn counts_are_sums()
         → (in_order meaning script front at_start).total ≡ sum_from (count_in_order meaning script) 1 (commands_in front) }
     ensures counts { (meaning : Meaning) (script : Script) (front back : List Turn) → script.turns ≡ front ++ back → (query : ℕ)
         → (in_order meaning script front at_start).count query ≡ newest_of is_end (count_in_order meaning script) [] (marks_from 0 front) query 0 }
+{}
+
+/// Laws of the marks and values of queries, in a state of a run of a lawful script. The marks of all chunks are those that the
+/// turns taken so far make. Neither their calls nor the numbers of the commands that they name fall, and those of one query are
+/// a Begin and an End in turn, a Begin first. Each completion, and each post that was not taken, has one value for each End whose
+/// call its chunk finishes: the query's count in order behind that End.
+pub fn query_messages_are_right()
+    ensures marks { (meaning : Meaning) (reading : Reading) (script : Script) (core : Core)
+        → Kept meaning reading script core → QueriesRight meaning script core
+        → all_marks (segments core) ≡ marks_from 0 core.past }
+    ensures turns { (meaning : Meaning) (reading : Reading) (script : Script) (core : Core)
+        → Kept meaning reading script core → QueriesRight meaning script core → IsLawful meaning script
+        → (query : ℕ) → AreInTurn query false (all_marks (segments core)) }
+    ensures calls { (meaning : Meaning) (reading : Reading) (script : Script) (core : Core)
+        → Kept meaning reading script core → QueriesRight meaning script core → IsLawful meaning script
+        → Pairwise (λ m k. m.call ≤ k.call) (all_marks (segments core)) }
+    ensures numbers { (meaning : Meaning) (reading : Reading) (script : Script) (core : Core)
+        → Kept meaning reading script core → QueriesRight meaning script core
+        → Pairwise (λ m k. m.before ≤ k.before) (all_marks (segments core)) }
+    ensures values { (meaning : Meaning) (reading : Reading) (script : Script) (core : Core)
+        → Kept meaning reading script core → QueriesRight meaning script core
+        → (front : List Message) (m : Message) (back : List Message) → core.posts ++ core.completions ≡ front ++ m ∷ back
+        → m.values ≡ values_after meaning script (suc (length core.taken + length front)) }
 {}
 
 /// What holds of queries holds as a run begins, and these steps keep it, in a lawful script: App takes posts, hands a chunk over,
