@@ -69,3 +69,5 @@ pub mod CountsKept
 pub mod QueriesKept
 pub mod MarksInTurn
 pub mod EndValues
+pub mod WorkedQueryRun
+pub mod LawfulQuery

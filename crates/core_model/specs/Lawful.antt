@@ -5,6 +5,7 @@ use Rattle.dx_types.specs.declared.range.Range.{Range}
 use Rattle.vk_types.specs.declared.access.Stage.TheVariants as stage
 use Rattle.vk_types.specs.declared.touch.Touch.{Touch}
 use Rattle.vk_types.specs.declared.message.QueryMark.{QueryMark}
+use Rattle.vk_types.specs.Lists.{Pairwise}
 use Rattle.vk_types.specs.Memory.{range}
 use Rattle.vk_types.specs.Hazards.{touch, write_access, work_touches, cond_touches, is_touched}
 use Rattle.vk_types.specs.Effects.{Meaning}
@@ -136,6 +137,12 @@ abbrev pub ClassFits : Script → ℕ → Option ℕ → Type 0
 ClassFits script buffer None = Unit {0}
 ClassFits script buffer (Some class) = (class < 8) × (script.size buffer ≤ class_length class)
 
+-- at most 32 dynamic buffers of a class live
+abbrev pub FewLive : Script → (ℕ → Bool) → Type 0
+FewLive script live =
+    (class : ℕ) (buffers : List ℕ) → Pairwise (λ r s. r ≡ s → ⊥) buffers → AllByRecursion (λ r. (live r ≡ true) × (script.class r ≡ Some class)) buffers
+    → length buffers ≤ 32
+
 -- what may come behind a turn: a later call, or, where its call goes on, an item of the same
 abbrev pub ComesNext : Turn → Turn → Type 0
 ComesNext t u = (ends_call t ≡ true → call_of t < call_of u) × (ends_call t ≡ false → (is_entry u ≡ true) × (call_of u ≡ call_of t))
@@ -168,3 +175,4 @@ pub record IsLawful (meaning : Meaning) (script : Script) : Type 0 where
       → (b i : ℕ) → is_touched (play_touches play) b i ≡ true → in_ranges bound b i ≡ true
   pub classes : (buffer : ℕ) → ClassFits script buffer (script.class buffer)
   pub staging : (buffer : ℕ) → script.is_staging buffer ≡ true → script.class buffer ≡ None
+  pub few : (front back : List Turn) → script.turns ≡ front ++ back → FewLive script (in_order meaning script front at_start).live

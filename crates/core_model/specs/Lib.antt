@@ -24,3 +24,4 @@ pub mod Listed
 pub mod Invariant
 pub mod Kept
 pub mod Queries
+pub mod WorkedQuery

@@ -36,13 +36,16 @@ ghost use Rattle.core_model.specs.Invariant.{turns_of, handed, commands_of, IsSi
 ghost use Rattle.core_model.specs.Kept.{Kept};
 ghost use Rattle.core_model.specs.Queries.{count_in_order, commands_in, marks_from, is_end, newest_of, AreInTurn, QueriesRight};
 ghost use Rattle.core_model.specs.WorkedLogs.{no_shaders, update_copy_map, PlaysUpdateCopyMap, PlaysFiveBuffers};
+ghost use Rattle.core_model.specs.WorkedQuery.{count_groups, one_query, PlaysOneQuery};
 
-/// What the definitions give for two small logs: the whole run, with its replies and its listing. The first log is all that
-/// the checks of the calls make sure of, so what is asked of a script can be met.
+/// What the definitions give for three small logs: the whole run, with its replies and its listing. The first log, and the last,
+/// which has a query that counts, are all that the checks of the calls make sure of, so what is asked of a script can be met.
 pub fn worked_logs()
     ensures lawful { IsLawful no_shaders update_copy_map }
     ensures update_copy_map { PlaysUpdateCopyMap }
     ensures five_buffers { PlaysFiveBuffers }
+    ensures lawful_query { IsLawful count_groups one_query }
+    ensures one_query { PlaysOneQuery }
 {}
 
 /// A law of choices. A step with the choices of the core that is stepped is a step with free choices, its Finish one with the
