@@ -1,5 +1,6 @@
 -- The invocations that turns run in order, as sums over the numbers of the commands that they make.
 use Rattle.std.proofs.Common.{◌≡◌, ℕ, zero, suc, ◌+◌, ◌-◌, ◌<◌, ◌≤◌, true, false, subst, List, [], ◌∷◌, ◌++◌, refl, sym, ap, ◌∙◌, ◌⊎◌, inl, inr, Some, None, arith}
+use Rattle.vk_types.specs.Lists.{numbers_from}
 use Rattle.vk_types.specs.Memory.{number_at}
 use Rattle.vk_types.specs.Effects.{Meaning}
 use Rattle.core_model.specs.Script.{Create, Discard, No_overwrite, Stage, Command, Destroy, Create_shader, Mark_query, Set_state, Turn, Refused, Passed, Flushed, Asked, Item, Script, InOrder, at_start, turn_in_order, in_order}
@@ -51,6 +52,17 @@ sum_between f first last = elim (by_order first last) [
     by_order zero b = inl (omega arith)
     by_order (suc a) zero = inr (omega arith)
     by_order (suc a) (suc b) = elim (by_order a b) [ inl l ↦ inl (omega (arith, l)) | inr l ↦ inr (omega (arith, l)) ]
+
+-- numbers one after another, and those behind them
+pub numbers_more : (a first b : ℕ) → numbers_from first (a + b) ≡ numbers_from first a ++ numbers_from (first + a) b
+numbers_more zero first b =
+    let e : first ≡ first + 0 = omega arith in
+    let n : 0 + b ≡ b = omega arith in
+    ap (numbers_from first) n ∙ ap (λ k. numbers_from k b) e
+numbers_more (suc a) first b =
+    let n : suc a + b ≡ suc (a + b) = omega arith in
+    let e : suc first + a ≡ first + suc a = omega arith in
+    ap (numbers_from first) n ∙ ap (λ l. first ∷ l) (numbers_more a (suc first) b ∙ ap (λ k. numbers_from (suc first) a ++ numbers_from k b) e)
 
 -- A turn makes a command or none ------------------------------------------------------------------------------------------
 

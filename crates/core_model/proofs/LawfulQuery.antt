@@ -1,5 +1,5 @@
 -- The worked log with a query is all that the checks of the calls make sure of.
-use Rattle.std.proofs.Common.{List, [], ◌∷◌, true, false, refl, Some, None, arith}
+use Rattle.std.proofs.Common.{[], true, false, refl, None, arith}
 use Rattle.core_model.specs.Script.{Command, Create_shader, Mark_query, Set_state, Item}
 use Rattle.core_model.specs.Lawful.{IsLawful}
 use Rattle.core_model.specs.WorkedQuery.{count_groups, dispatched, one_query}

@@ -71,3 +71,4 @@ pub mod MarksInTurn
 pub mod EndValues
 pub mod WorkedQueryRun
 pub mod LawfulQuery
+pub mod RanCounts

@@ -2,6 +2,7 @@
 use Rattle.std.proofs.Common.{◌≡◌, ℕ, suc, ◌+◌, ◌≤◌, Bool, true, false, List, [], ◌∷◌, ◌++◌, refl, sym, ap, ◌∙◌, subst, ◌⊎◌, inl, inr, Option, Some, None, arith, append-nil}
 use Rattle.std.proofs.lemmas.Bool.{cases_lt}
 use Rattle.vk_types.specs.Effects.{Meaning}
+use Rattle.vk_types.specs.Lists.{numbers_from}
 use Rattle.core_model.specs.Script.{Create, Discard, No_overwrite, Stage, Command, Destroy, Create_shader, Mark_query, Set_state, Count, Turn, Refused, Passed, Flushed, Asked, Item, Script, at_start, in_order}
 use Rattle.core_model.specs.Chunking.{is_due, joined}
 use Rattle.core_model.specs.CoreState.{Segment, Core, segments, later, listed, last_finished, Value_said, End_said}
@@ -18,7 +19,7 @@ use Rattle.core_model.proofs.Opened.{listed_open}
 use Rattle.core_model.proofs.Turning.{segments_handed, answered_good}
 use Rattle.core_model.proofs.KeptTurns.{turn_traced, pending_kept}
 use Rattle.core_model.proofs.KeptItems.{unconcerned, quiet_beside}
-use Rattle.core_model.proofs.InOrderCounts.{sum_same, sum_split, sums, commands_append}
+use Rattle.core_model.proofs.InOrderCounts.{numbers_more, sum_same, sum_split, sums, commands_append}
 use Rattle.core_model.proofs.QueryMarks.{marks_append, marked_front, marked_back, marked_append}
 use Rattle.core_model.proofs.QueryAnswers.{kept_cut, answer_right}
 use Rattle.core_model.proofs.QueryTurns.{Adds, takes_adds}
@@ -92,6 +93,13 @@ module _ (meaning : Meaning) (reading : Reading) (script : Script) (old new : Co
         ∙ ap (λ l. marks_from before old.open_chunk.turns ++ l) (sym (append-nil (turn_marks (before + commands_in old.open_chunk.turns) t)))
         ∙ sym (marks_append before old.open_chunk.turns (t ∷ []))
         ∙ ap (marks_from before) (sym a.turns);
+    numbered =
+        a.numbers ∙ ap (λ l. l ++ numbers_from (suc old.commands) (commands_by t)) open_marked.numbered
+        ∙ (let c : suc old.commands ≡ suc before + commands_in old.open_chunk.turns = (let z = in_chunk in omega (arith, z)) in
+        ap (λ k. numbers_from (suc before) (commands_in old.open_chunk.turns) ++ numbers_from k (commands_by t)) c)
+        ∙ sym (numbers_more (commands_in old.open_chunk.turns) (suc before) (commands_by t))
+        ∙ ap (numbers_from (suc before)) (let z = commands_append old.open_chunk.turns (t ∷ []) in omega (arith, z))
+        ∙ ap (λ l. numbers_from (suc before) (commands_in l)) (sym a.turns);
     above = a.above before (let c = in_chunk in omega (arith, c)) open_marked.above;
   }
 

@@ -261,7 +261,7 @@ hand_over_queries meaning script old q =
     record {
       commands = q.commands;
       counts = λ n l. ap (λ l. (run_world meaning l empty).counts n) same ∙ q.counts n l;
-      marked = subst (AreMarked 0) (sym line) (marked_append 0 (segments old) (empty_segment ∷ []) q.marked (record { queries = refl; above = tt }, tt));
+      marked = subst (AreMarked 0) (sym line) (marked_append 0 (segments old) (empty_segment ∷ []) q.marked (record { queries = refl; above = tt; numbered = refl }, tt));
       messages = q.messages;
       values = q.values;
     }
@@ -276,7 +276,7 @@ pub start_queries : (meaning : Meaning) (script : Script) → QueriesRight meani
 start_queries meaning script = record {
   commands = refl;
   counts = λ n l. let z : 0 ≡ n = omega (arith, l) in ap (count_in_order meaning script) z;
-  marked = (record { queries = refl; above = tt }, tt);
+  marked = (record { queries = refl; above = tt; numbered = refl }, tt);
   messages = tt;
   values = λ q. refl;
 }

@@ -1,12 +1,15 @@
 -- What holds of a run between steps of the queries that count: how many commands the turns make, which marks of queries, how
 -- many invocations each command ran, and which values App learned.
-use Rattle.std.specs.Prelude.{◌≡◌, ℕ, suc, ◌+◌, ◌<◌, ◌≤◌, Bool, cond, not, ◌&&◌, ◌==◌, nat_le, List, [], ◌∷◌, ◌++◌, Some, None}
+use Rattle.std.specs.Prelude.{◌≡◌, ℕ, suc, ◌+◌, ◌<◌, ◌≤◌, Bool, cond, not, ◌&&◌, ◌==◌, nat_le, List, [], ◌∷◌, ◌++◌, map, Some, None}
 use Rattle.std.specs.List.{AllByRecursion}
 use Rattle.vk_types.specs.declared.message.QueryMark.{QueryMark}
+use Rattle.vk_types.specs.Lists.{numbers_from}
 use Rattle.vk_types.specs.Memory.{number_at}
 use Rattle.vk_types.specs.Effects.{Meaning, Act, Host_write, Device, Host_read, work_count, is_skipped}
+use Rattle.vk_types.specs.Entries.{Entry}
 use Rattle.core_model.specs.Script.{Play, Create, Discard, No_overwrite, Stage, Command, Destroy, Create_shader, Mark_query, Set_state, Turn, Refused, Passed, Flushed, Asked, Item, Script, InOrder, at_start, turn_in_order}
 use Rattle.core_model.specs.CoreState.{Segment, entries, Message, Core, segments, listed, done}
+use Rattle.core_model.specs.AppActs.{device_commands}
 use Rattle.core_model.specs.OtherParts.{all_marks, value_at, values_of}
 use Rattle.core_model.specs.Worlds.{empty, run_world}
 
@@ -98,10 +101,15 @@ act_is_above k (Host_write target bytes) = Unit {0}
 act_is_above k (Device d) = k < d.number
 act_is_above k (Host_read source) = Unit {0}
 
--- behind so many commands a chunk has the marks that its turns make, and its commands have the numbers above
+-- the numbers of the commands among these entries
+abbrev pub command_numbers : List Entry → List ℕ
+command_numbers xs = map (λ d. d.number) (device_commands xs)
+
+-- behind so many commands a chunk has the marks that its turns make, and its commands have the next numbers, one after another
 pub record IsMarked (n : ℕ) (s : Segment) : Type 0 where
   pub queries : s.queries ≡ marks_from n s.turns
   pub above : AllByRecursion (λ x. act_is_above n x.act) (entries s)
+  pub numbered : command_numbers s.commands ≡ numbers_from (suc n) (commands_in s.turns)
 
 abbrev pub AreMarked : ℕ → List Segment → Type 0
 AreMarked n [] = Unit {0}

@@ -7,7 +7,7 @@ use Rattle.vk_types.specs.declared.op.VkOp.{VkOp}
 use Rattle.vk_types.specs.declared.op.VkOp.TheVariants as op
 use Rattle.vk_types.specs.Memory.{number_at}
 use Rattle.vk_types.specs.Effects.{Meaning}
-use Rattle.core_model.specs.Script.{Command, Create_shader, Mark_query, Set_state, Count, Turn, Asked, Item, Script}
+use Rattle.core_model.specs.Script.{Command, Create_shader, Mark_query, Set_state, Count, Asked, Item, Script}
 use Rattle.core_model.specs.CoreState.{Core, Value_said, End_said}
 use Rattle.core_model.specs.Runs.{IsRun}
 use Rattle.core_model.specs.WorkedLogs.{command, run_order}

@@ -6,12 +6,13 @@ ghost use Rattle.std.specs.Prelude.{◌≡◌, ℕ, suc, ◌+◌, ◌<◌, ◌�
 ghost use Rattle.std.specs.List.{AllByRecursion};
 ghost use Rattle.dx_types.specs.declared.range.Range.{Range};
 ghost use Rattle.vk_types.specs.Covered.{Covered};
+ghost use Rattle.vk_types.specs.declared.command.Command.{Command};
 ghost use Rattle.vk_types.specs.declared.op.VkOp.{VkOp};
-ghost use Rattle.vk_types.specs.Effects.{Meaning};
+ghost use Rattle.vk_types.specs.Effects.{Meaning, Device};
 ghost use Rattle.vk_types.specs.Entries.{EntriesCovered, EntriesKeep, run_entries, start_counts};
 ghost use Rattle.vk_types.specs.Listing.{acts};
 ghost use Rattle.vk_types.specs.Allowed.{IsAllowed, outcome};
-ghost use Rattle.vk_types.specs.Lists.{Pairwise, IsReordering};
+ghost use Rattle.vk_types.specs.Lists.{Pairwise, IsReordering, numbers_from};
 ghost use Rattle.vk_types.specs.Memory.{zeros};
 ghost use Rattle.vk_types.specs.RunListing.{IsRunListing, SameOrder};
 ghost use Rattle.core_model.specs.Script.{Play, Ask, Bytes, Count, Constant, Turn, Asked, Item, is_plain, Script, at_start, in_order};
@@ -34,7 +35,7 @@ ghost use Rattle.core_model.specs.Listed.{plain_entries};
 ghost use Rattle.core_model.specs.Lawful.{IsLawful};
 ghost use Rattle.core_model.specs.Invariant.{turns_of, handed, commands_of, IsSized, IsBounded, IsAsked, IsRight, Good};
 ghost use Rattle.core_model.specs.Kept.{Kept};
-ghost use Rattle.core_model.specs.Queries.{count_in_order, commands_in, marks_from, is_end, newest_of, AreInTurn, QueriesRight};
+ghost use Rattle.core_model.specs.Queries.{count_in_order, commands_in, command_numbers, marks_from, is_end, newest_of, AreInTurn, QueriesRight};
 ghost use Rattle.core_model.specs.WorkedLogs.{no_shaders, update_copy_map, PlaysUpdateCopyMap, PlaysFiveBuffers};
 ghost use Rattle.core_model.specs.WorkedQuery.{count_groups, one_query, PlaysOneQuery};
 
@@ -124,6 +125,18 @@ pub fn counts_are_sums()
         → (in_order meaning script front at_start).total ≡ sum_from (count_in_order meaning script) 1 (commands_in front) }
     ensures counts { (meaning : Meaning) (script : Script) (front back : List Turn) → script.turns ≡ front ++ back → (query : ℕ)
         → (in_order meaning script front at_start).count query ≡ newest_of is_end (count_in_order meaning script) [] (marks_from 0 front) query 0 }
+{}
+
+/// Laws of the numbers and counts of commands, in a state of a run of a lawful script. The commands of the listing, those of the
+/// open chunk too, are numbered 1, 2, 3, .. And whichever ready commands were run, the device counted for each of them the
+/// invocations that the command runs in order.
+pub fn commands_count_in_order()
+    ensures numbers { (meaning : Meaning) (reading : Reading) (script : Script) (core : Core)
+        → Kept meaning reading script core → QueriesRight meaning script core
+        → command_numbers (commands_of (segments core)) ≡ numbers_from 1 core.commands }
+    ensures counts { (meaning : Meaning) (reading : Reading) (script : Script) (core : Core)
+        → Kept meaning reading script core → QueriesRight meaning script core
+        → AllByRecursion (λ x. (d : Command) → x.act ≡ Device d → core.counts d.number ≡ count_in_order meaning script d.number) core.ran }
 {}
 
 /// Laws of the marks and values of queries, in a state of a run of a lawful script. The marks of all chunks are those that the
