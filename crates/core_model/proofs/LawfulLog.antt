@@ -111,9 +111,9 @@ staged_to r e = let s : all_of 1 ≡ r = cc e in subst (λ r. r.to ≡ r.from + 
 
 items : AtEach (Items no_shaders update_copy_map) [] update_copy_map.turns
 items = (
-  ((refl, (omega arith)), tt, (λ b i h. absurd (cc h)), tt, (λ h. refl)),
+  ((refl, (omega arith), refl), tt, (λ b i h. absurd (cc h)), tt, (λ h. refl)),
   (
-    ((refl, (omega arith)), tt, (λ b i h. absurd (cc h)), tt, (λ h. refl)),
+    ((refl, (omega arith), refl), tt, (λ b i h. absurd (cc h)), tt, (λ h. refl)),
     (
       (((omega arith), staged_to), (((refl, (omega arith)), (omega arith)), tt), (λ b i h. h), ((omega arith), tt), (λ h. absurd (cc h))),
       (

@@ -72,3 +72,7 @@ pub mod EndValues
 pub mod WorkedQueryRun
 pub mod LawfulQuery
 pub mod RanCounts
+pub mod ClassMoves
+pub mod ClassSteps
+pub mod ClassItems
+pub mod BlocksEnough

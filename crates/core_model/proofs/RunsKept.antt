@@ -18,6 +18,7 @@ use Rattle.core_model.specs.Lawful.{IsLawful}
 use Rattle.core_model.specs.Invariant.{IsLive, IsAsked, IsRight}
 use Rattle.core_model.specs.Kept.{Kept}
 use Rattle.core_model.specs.Queries.{QueriesRight}
+use Rattle.core_model.specs.ClassBlocks.{ClassesRight, HasBlockFor}
 use Rattle.core_model.proofs.Idle.{free_is_idle, made_is_idle}
 use Rattle.core_model.proofs.Giving.{IsVacant, vacant_lives, stocked, vacant}
 use Rattle.core_model.proofs.KeptSteps.{posts_kept, hand_over_kept, others_kept, start_kept}
@@ -26,13 +27,16 @@ use Rattle.core_model.proofs.KeptActs.{items_kept}
 use Rattle.core_model.proofs.Reading.{asked_bytes_kept}
 use Rattle.core_model.proofs.QueryMoves.{start_queries, posts_queries, hand_over_queries, others_queries}
 use Rattle.core_model.proofs.QueriesKept.{turn_queries, end_queries, count_kept}
+use Rattle.core_model.proofs.ClassSteps.{start_classes, posts_classes, hand_over_classes, end_classes, others_classes}
+use Rattle.core_model.proofs.ClassItems.{turn_classes}
+use Rattle.core_model.proofs.BlocksEnough.{block_enough}
 use Rattle.core_model.proofs.Choices.{run_free}
 use Rattle.core_model.specs.Runs.{IsRun, pending_in}
 
 module _ (meaning : Meaning) (reading : Reading) (script : Script) (lawful : IsLawful meaning script) where
-  -- the invariant, and what holds of queries
+  -- the invariant, what holds of queries, and where the blocks of classes are
   abbrev Holds : Core → Type 0
-  Holds core = Kept meaning reading script core × QueriesRight meaning script core
+  Holds core = Kept meaning reading script core × QueriesRight meaning script core × ClassesRight script core
 
   turn_kept : (old : Core) (t : Turn) (turns : List Turn) (new : Core) → old.future ≡ t ∷ turns → is_due script old.open_chunk.turns old.future ≡ false → TakesTurn reading script t turns old new
       → QueriesRight meaning script old → Kept meaning reading script old → Kept meaning reading script new
@@ -47,20 +51,20 @@ module _ (meaning : Meaning) (reading : Reading) (script : Script) (lawful : IsL
   acts_kept : (old new : Core) → Acts reading script old new → Holds old → Holds new
   acts_kept old new a k =
       elim a.1 [
-        | inl h ↦ subst Holds (sym h.2) (hand_over_kept meaning reading script old h.0 h.1 k.0, hand_over_queries meaning script old k.1)
+        | inl h ↦ subst Holds (sym h.2) (hand_over_kept meaning reading script old h.0 h.1 k.0, hand_over_queries meaning script old k.1, hand_over_classes script old k.2)
         | inr b ↦ elim b [
-          | inl h ↦ let now = turn_kept old h.1 h.2 new h.3 h.0 h.4 k.1 k.0 in (now, turn_queries meaning reading script lawful old h.1 h.2 new h.3 h.0 h.4 k.0 now k.1)
-          | inr h ↦ subst Holds (sym h.3) (end_kept meaning reading script old k.0, end_queries meaning script old k.1)
+          | inl h ↦ let now = turn_kept old h.1 h.2 new h.3 h.0 h.4 k.1 k.0 in (now, turn_queries meaning reading script lawful old h.1 h.2 new h.3 h.0 h.4 k.0 now k.1, turn_classes meaning reading script lawful old h.1 h.2 new h.3 h.4 k.0 k.2)
+          | inr h ↦ subst Holds (sym h.3) (end_kept meaning reading script old k.0, end_queries meaning script old k.1, end_classes script old End_said k.2)
         ]
       ]
 
   others_hold : (old : Core) (e : Event) (new : Core) → is_of_app e ≡ false → Step meaning reading script old e new → Holds old → Holds new
-  others_hold old e new h p k = (others_kept meaning reading script old e new h p k.0, others_queries meaning reading script old e new h p k.0 k.1)
+  others_hold old e new h p k = (others_kept meaning reading script old e new h p k.0, others_queries meaning reading script old e new h p k.0 k.1, others_classes meaning reading script old e new h p k.2)
 
   -- each step keeps it
   pub step_kept : (old : Core) (e : Event) (new : Core) → Step meaning reading script old e new → Holds old → Holds new
   step_kept old (App n) new p k =
-      let mid : Holds (with_fence n p.2) = (posts_kept meaning reading script n old p.2 p.3 k.0, posts_queries meaning reading script lawful n old p.2 p.3 k.0 k.1) in
+      let mid : Holds (with_fence n p.2) = (posts_kept meaning reading script n old p.2 p.3 k.0, posts_queries meaning reading script lawful n old p.2 p.3 k.0 k.1, posts_classes script n old p.2 p.3 k.2) in
       elim p.4 [
         | inl a ↦ acts_kept (with_fence n p.2) new a mid
         | inr h ↦ subst Holds (sym h.2) mid
@@ -80,8 +84,8 @@ module _ (meaning : Meaning) (reading : Reading) (script : Script) (lawful : IsL
 
 -- each state that a chain of steps reaches
 reached : (meaning : Meaning) (reading : Reading) (script : Script) → IsLawful meaning script → (events : List Event) (new : Core)
-    → Chain meaning reading script (start script) events new → Kept meaning reading script new × QueriesRight meaning script new
-reached meaning reading script lawful events new h = chain_kept meaning reading script lawful events (start script) new h (start_kept meaning reading script, start_queries meaning script)
+    → Chain meaning reading script (start script) events new → Kept meaning reading script new × QueriesRight meaning script new × ClassesRight script new
+reached meaning reading script lawful events new h = chain_kept meaning reading script lawful events (start script) new h (start_kept meaning reading script, start_queries meaning script, start_classes script)
 
 pub reached_kept : (meaning : Meaning) (reading : Reading) (script : Script) → IsLawful meaning script → (events : List Event) (new : Core)
     → Chain meaning reading script (start script) events new → Kept meaning reading script new
@@ -90,6 +94,16 @@ reached_kept meaning reading script lawful events new h = (reached meaning readi
 pub reached_queries : (meaning : Meaning) (reading : Reading) (script : Script) → IsLawful meaning script → (events : List Event) (new : Core)
     → Chain meaning reading script (start script) events new → QueriesRight meaning script new
 reached_queries meaning reading script lawful events new h = (reached meaning reading script lawful events new h).1
+
+pub reached_classes : (meaning : Meaning) (reading : Reading) (script : Script) → IsLawful meaning script → (events : List Event) (new : Core)
+    → Chain meaning reading script (start script) events new → ClassesRight script new
+reached_classes meaning reading script lawful events new h = (reached meaning reading script lawful events new h).2
+
+-- so App has a block, or one comes home
+pub reached_blocks : (meaning : Meaning) (reading : Reading) (script : Script) → IsLawful meaning script → (events : List Event) (new : Core)
+    → Chain meaning reading script (start script) events new → is_due script new.open_chunk.turns new.future ≡ false → (class : ℕ) → class < 8 → HasBlockFor new class
+reached_blocks meaning reading script lawful events new h due class less =
+    let r = reached meaning reading script lawful events new h in block_enough meaning reading script lawful new r.0 r.2 due class less
 
 -- and the end of each run of the core that is stepped
 pub run_kept : (meaning : Meaning) (script : Script) → IsLawful meaning script → (schedule : List ℕ) (new : Core) → IsRun meaning script schedule new → Kept meaning Any_choices script new

@@ -103,7 +103,7 @@ is_begun query (m ∷ ms) was = is_begun query ms (cond (m.query == query) m.beg
 
 -- what a play asks of the turns before it
 abbrev pub PlaysRightly : Meaning → Script → List Turn → ℕ → Play → Type 0
-PlaysRightly meaning script front call (Create buffer bytes) = (buffer ≡ call) × (length bytes ≤ script.size buffer)
+PlaysRightly meaning script front call (Create buffer bytes) = (buffer ≡ call) × (length bytes ≤ script.size buffer) × ((in_order meaning script front at_start).live buffer ≡ false)
 PlaysRightly meaning script front call (Discard buffer from bytes) =
     Fits meaning script front (range buffer from (from + length bytes)) × ((class : ℕ) × (script.class buffer ≡ Some class))
 PlaysRightly meaning script front call (No_overwrite buffer from bytes) =

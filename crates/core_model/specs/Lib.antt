@@ -25,3 +25,4 @@ pub mod Invariant
 pub mod Kept
 pub mod Queries
 pub mod WorkedQuery
+pub mod ClassBlocks

@@ -17,7 +17,7 @@ ghost use Rattle.vk_types.specs.Memory.{zeros};
 ghost use Rattle.vk_types.specs.RunListing.{IsRunListing, SameOrder};
 ghost use Rattle.core_model.specs.Script.{Play, Ask, Bytes, Count, Constant, Turn, Asked, Item, is_plain, Script, at_start, in_order};
 ghost use Rattle.core_model.specs.Chunking.{is_due, cut, chunks};
-ghost use Rattle.core_model.specs.CoreState.{Message, Page, Pool, Core, start, flat, rests, segments, on_device, listed, done, Still_said, End_said};
+ghost use Rattle.core_model.specs.CoreState.{Message, Page, Pool, Core, start, flat, rests, segments, on_device, listed, done, Said, Still_said, End_said};
 ghost use Rattle.core_model.specs.Adding.{with_turn, with_reply};
 ghost use Rattle.core_model.specs.Readings.{Reading, Any_choices, First_choices, may_hand_over};
 ghost use Rattle.core_model.specs.OtherParts.{all_marks, sum_from};
@@ -36,6 +36,7 @@ ghost use Rattle.core_model.specs.Lawful.{IsLawful};
 ghost use Rattle.core_model.specs.Invariant.{turns_of, handed, commands_of, IsSized, IsBounded, IsAsked, IsRight, Good};
 ghost use Rattle.core_model.specs.Kept.{Kept};
 ghost use Rattle.core_model.specs.Queries.{count_in_order, commands_in, command_numbers, marks_from, is_end, newest_of, AreInTurn, QueriesRight};
+ghost use Rattle.core_model.specs.ClassBlocks.{ClassesRight, HasBlockFor};
 ghost use Rattle.core_model.specs.WorkedLogs.{no_shaders, update_copy_map, PlaysUpdateCopyMap, PlaysFiveBuffers};
 ghost use Rattle.core_model.specs.WorkedQuery.{count_groups, one_query, PlaysOneQuery};
 
@@ -147,7 +148,7 @@ pub fn query_messages_are_right()
     ensures marks { (meaning : Meaning) (reading : Reading) (script : Script) (core : Core)
         → Kept meaning reading script core → QueriesRight meaning script core
         → all_marks (segments core) ≡ marks_from 0 core.past }
-    ensures turns { (meaning : Meaning) (reading : Reading) (script : Script) (core : Core)
+    ensures in_turn { (meaning : Meaning) (reading : Reading) (script : Script) (core : Core)
         → Kept meaning reading script core → QueriesRight meaning script core → IsLawful meaning script
         → (query : ℕ) → AreInTurn query false (all_marks (segments core)) }
     ensures calls { (meaning : Meaning) (reading : Reading) (script : Script) (core : Core)
@@ -185,12 +186,31 @@ pub fn steps_keep_the_queries()
         → QueriesRight meaning script old → QueriesRight meaning script new }
 {}
 
-/// The law of runs, of a lawful script. The invariant, and what holds of queries, hold in every state that steps reach from the
-/// start, by any choices, in each reading and in any order, and the invariant at the end of each run of the core that is stepped,
-/// by any schedule. So there each answer, of bytes or of a query's count, is what the calls before it give one after another,
-/// and each call that was answered as pending has a use that is not finished; no command that is not finished touches a block
-/// that may be handed out; the listing is covered, and all orders that it allows agree; and what the device ran keeps what is
-/// ordered.
+/// What is known of where the blocks of a class are (at home, on their way, a buffer's, or retired by a chunk) holds as a run
+/// begins, and these steps keep it, in a lawful script: App takes posts, hands a chunk over, takes any turn, or ends; and each
+/// step of each other part.
+pub fn steps_keep_the_classes()
+    ensures start { (script : Script) → ClassesRight script (start script) }
+    ensures posts { (script : Script) (n : ℕ) (old mid : Core)
+        → TakesPosts n old mid → ClassesRight script old → ClassesRight script (with_fence n mid) }
+    ensures hand_over { (script : Script) (old : Core) → ClassesRight script old → ClassesRight script (handed_over old) }
+    ensures turns { (meaning : Meaning) (reading : Reading) (script : Script) → IsLawful meaning script → (old : Core)
+        (turn : Turn) (turns : List Turn) (new : Core)
+        → old.future ≡ turn ∷ turns → TakesTurn reading script turn turns old new → Kept meaning reading script old
+        → ClassesRight script old → ClassesRight script new }
+    ensures ended { (script : Script) (old : Core) (said : Said)
+        → ClassesRight script old → ClassesRight script (with_reply said (record old { ended = true })) }
+    ensures others { (meaning : Meaning) (reading : Reading) (script : Script) (old : Core) (e : Event) (new : Core)
+        → is_of_app e ≡ false → Step meaning reading script old e new → ClassesRight script old → ClassesRight script new }
+{}
+
+/// The law of runs, of a lawful script. The invariant, what holds of queries, and where the blocks of a class are, hold in every
+/// state that steps reach from the start, by any choices, in each reading and in any order, and the invariant at the end of each
+/// run of the core that is stepped, by any schedule. So there each answer, of bytes or of a query's count, is what the calls
+/// before it give one after another, and each call that was answered as pending has a use that is not finished; no command that
+/// is not finished touches a block that may be handed out; the listing is covered, and all orders that it allows agree; and what
+/// the device ran keeps what is ordered. And where App may take a turn, of each class a block can be made, is at home or on its
+/// way there, or was retired by a chunk that was handed over.
 pub fn runs_keep_the_invariant()
     ensures steps { (meaning : Meaning) (reading : Reading) (script : Script) → IsLawful meaning script
         → (events : List Event) (core : Core) → Chain meaning reading script (start script) events core → Kept meaning reading script core }
@@ -198,6 +218,11 @@ pub fn runs_keep_the_invariant()
         → (schedule : List ℕ) (core : Core) → IsRun meaning script schedule core → Kept meaning Any_choices script core }
     ensures queries { (meaning : Meaning) (reading : Reading) (script : Script) → IsLawful meaning script
         → (events : List Event) (core : Core) → Chain meaning reading script (start script) events core → QueriesRight meaning script core }
+    ensures classes { (meaning : Meaning) (reading : Reading) (script : Script) → IsLawful meaning script
+        → (events : List Event) (core : Core) → Chain meaning reading script (start script) events core → ClassesRight script core }
+    ensures blocks { (meaning : Meaning) (reading : Reading) (script : Script) → IsLawful meaning script
+        → (events : List Event) (core : Core) → Chain meaning reading script (start script) events core
+        → is_due script core.open_chunk.turns core.future ≡ false → (class : ℕ) → class < 8 → HasBlockFor core class }
     ensures replies { (meaning : Meaning) (script : Script) → IsLawful meaning script
         → (schedule : List ℕ) (core : Core) → IsRun meaning script schedule core → AllByRecursion (IsRight meaning script) core.replies }
     ensures pending { (meaning : Meaning) (script : Script) → IsLawful meaning script
