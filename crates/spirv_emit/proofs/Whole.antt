@@ -51,15 +51,11 @@ each_below P (suc n) h i lt = ⊎_elim (λ (e : i ≡ n). subst P (sym e) h.1) (
 unfoldable pub Has : List ℕ → ℕ → Type 0
 Has numbers v = has numbers v ≡ true
 
-<<<<<<< HEAD
 pub has_id : (numbers : List ℕ) (v : ℕ) → has numbers v ≡ true → Has numbers v
 unfolding Has
 has_id numbers v h = h
 
-place_below : (v : ℕ) (xs : List ℕ) → has xs v ≡ true → place v xs < length xs
-=======
 pub place_below : (v : ℕ) (xs : List ℕ) → has xs v ≡ true → place v xs < length xs
->>>>>>> 53ea7a0 (The profile takes every module that is emitted of a good shader)
 place_below v [] h = cc
 place_below v (x ∷ xs) h =
     ⊎_elim
