@@ -65,3 +65,11 @@ mod FewIds
 mod FewWords
 mod Bounds
 mod Accepted
+mod Appending
+mod Named
+mod Stretches
+mod Parts
+mod Flowing
+mod Joining
+mod Wholly
+mod Costs

@@ -6,3 +6,4 @@ pub mod Code
 pub mod Numbers
 pub mod Module
 pub mod Frames
+pub mod Emits

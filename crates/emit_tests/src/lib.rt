@@ -1,0 +1,5 @@
+//! Modules of shaders, from the shaders' bytes on.
+#![tactic(auto)]
+
+#[cfg(test)]
+mod tests;

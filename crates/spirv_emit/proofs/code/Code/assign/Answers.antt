@@ -1,0 +1,6 @@
+use Rattle.std.proofs.Common.{refl}
+use Rattle.spirv_emit.proofs.Appending.{then_puts, appends_to}
+use Rattle.spirv_emit.proofs.code.Code.assign.Goals as goal
+
+pub returns : goal.returns
+returns c = appends_to (then_puts c.in_ok-id.ensures.appends c.in_ok-store.ensures) (cc (c.variable.ensures, c.in_ok-id.ensures.id)) refl

@@ -1,0 +1,6 @@
+use Rattle.std.proofs.Common.{rules}
+use Rattle.spirv_emit.proofs.Appending.{puts_ok}
+use Rattle.spirv_emit.proofs.code.Code.branch.Goals as goal
+
+pub returns : goal.returns
+returns c = search (rules, puts_ok)

@@ -1,0 +1,5 @@
+use Rattle.spirv_emit.proofs.Appending.{puts_then}
+use Rattle.spirv_emit.proofs.code.Code.pass.Goals as goal
+
+pub returns : goal.returns
+returns c = puts_then c.in_ok-missed.ensures c.in_ok-branch.ensures

@@ -1,0 +1,5 @@
+use Rattle.spirv_emit.proofs.Appending.{puts_then}
+use Rattle.spirv_emit.proofs.code.Code.pointer_types.Goals as goal
+
+pub returns : goal.returns
+returns c = puts_then c.in_ok-type_pointer.ensures (puts_then c.in_ok-type_pointer-2.ensures (puts_then c.in_ok-type_pointer-3.ensures (c.in_ok-type_pointer-4.ensures)))
