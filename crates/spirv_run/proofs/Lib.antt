@@ -1,0 +1,5 @@
+pub mod Decoded
+pub mod Exchanging
+pub mod Samples
+pub mod Stepping
+pub mod Walking

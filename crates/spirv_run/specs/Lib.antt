@@ -1,0 +1,5 @@
+pub mod Held
+pub mod Steps
+pub mod Decoding
+pub mod Tables
+pub mod Threads

@@ -1,0 +1,102 @@
+// The table of a module: its steps, its group, and where its invocations start.
+
+ghost use Rattle.std.specs.Prelude.{◌≡◌, ◌+◌, ◌*◌, ◌<◌, ◌≤◌, ◌^◌, IfOk, OnSome, length, slice_get};
+ghost use Rattle.spirv_words.specs.Meaning.ModuleDispatch.{group_of};
+ghost use Rattle.spirv_run.specs.Decoding.{steps_of};
+ghost use Rattle.spirv_run.specs.Tables.{ids_of, HasRoom, Leave};
+
+use crate::decode::{behind_header, end_of_ids, instructions, local_size, steps};
+use crate::frame::Frame;
+use crate::names::Names;
+use crate::start::start_of;
+use crate::step::Step;
+use std::alloc::{AllocError, Global};
+use std::marker::Model;
+
+/// A module with its table. Each invocation starts behind the first steps, whose results are kept. A clause sees the
+/// module's words.
+#[derive(Drop)]
+pub struct Table<'a> {
+    words: &'a [u32],
+    steps: Vec<Step>,
+    group: [u32; 3],
+    start: u32,
+    kept: Frame,
+}
+
+impl<'a> Model for Table<'a> {
+    ghost use Rattle.std.specs.Prelude.{ℕ, List};
+    ghost use Rattle.spirv_run.specs.Tables.{IsTable};
+
+    ghost Value = { List ℕ };
+
+    ghost view = { λ t. t.words.now };
+
+    ghost invariant = { λ t. IsTable t.words.now t.steps.items t.group t.start t.kept };
+}
+
+impl<'a> Table<'a> {
+    /// The table of a module's words.
+    pub fn new(alloc: Global, words: &'a [u32]) -> Result<Table<'a>, AllocError>
+        ensures { IfOk result (λ table. table ≡ words.now) }
+    {
+        let ops = instructions(alloc, behind_header(words))?;
+        let names = Names::of(alloc, &ops)?;
+        let steps = steps(alloc, &names, &ops)?;
+        let group = local_size(&ops);
+        let mut kept = Frame::new(alloc, end_of_ids(&steps))?;
+        let start = start_of(&steps, &mut kept);
+        Ok(Table {
+            words,
+            steps,
+            group,
+            start,
+            kept,
+        })
+    }
+
+    /// The step at a place.
+    pub fn step(&self, place: usize) -> Option<Step>
+        ensures step { result ≡ slice_get (steps_of self.now) place }
+        ensures within { OnSome result (place + 1 < 2 ^ 64) }
+    {
+        if place < self.steps.len() {
+            Some(self.steps[place])
+        } else {
+            None
+        }
+    }
+
+    /// The sizes of the module's group.
+    pub fn group(&self) -> [u32; 3]
+        ensures { result ≡ group_of self.now }
+    {
+        self.group
+    }
+
+    /// The number behind all ids that the steps make.
+    pub fn end(&self) -> usize
+        ensures { result ≡ ids_of self.now }
+    {
+        self.kept.results.len()
+    }
+
+    /// Puts a frame where each invocation starts, and answers the place of its first step.
+    pub fn begin(&self, frame: &mut Frame) -> u32
+        requires { HasRoom frame.old self.now }
+        ensures leave { Leave self.now result frame.new }
+        ensures near { result ≤ 8192 }
+        ensures within { result ≤ 8192 * length self.now }
+        ensures room { HasRoom frame.new self.now }
+    {
+        frame.begin(&self.kept);
+        self.start
+    }
+
+    /// How many words the module has.
+    pub fn word_count(&self) -> usize
+        ensures { result ≡ length self.now }
+    {
+        self.words.len()
+    }
+}
