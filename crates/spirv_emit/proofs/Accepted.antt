@@ -32,7 +32,7 @@ use Rattle.spirv_emit.proofs.Scope.{Setting, Scope, setting_kept}
 use Rattle.spirv_emit.proofs.Turning.{body_runs}
 use Rattle.spirv_emit.proofs.Settling.{body_settles}
 use Rattle.spirv_emit.proofs.Placed.{program_proper}
-use Rattle.spirv_emit.proofs.Preamble.{before, before_fresh, before_outside, before_calm, before_entry, before_constant, before_function, before_setting, preamble_passes, preamble_settles}
+use Rattle.spirv_emit.proofs.PreambleRules.{before, before_fresh, before_outside, before_calm, before_entry, before_constant, before_function, before_setting, preamble_passes, preamble_settles}
 use Rattle.spirv_emit.proofs.Opening.{Outside, ConstantsPass, constants_pass, function_op, function_fine, Within, VariablesPass, local_passes, behind_local, variables_pass}
 
 -- what an emitted module means does not matter to what the profile takes

@@ -31,7 +31,7 @@ use Rattle.spirv_emit.proofs.Fitting.{MaybeHave, SourcesFit}
 use Rattle.spirv_emit.proofs.Testing.{MaybeInPlace}
 use Rattle.spirv_emit.proofs.Whole.{Has, has_id, has_append, own_in, pool_of}
 use Rattle.spirv_emit.proofs.Keeping.{instr_keeps}
-use Rattle.spirv_emit.proofs.Instructions.{ViewFits}
+use Rattle.spirv_emit.proofs.EachInstruction.{ViewFits}
 use Rattle.spirv_emit.proofs.Doing.{instr_does, test_does}
 use Rattle.spirv_emit.proofs.Numbered.{has_first, has_behind, has_with, Among, among_first, among_later, among_index, source_among, declared_here}
 

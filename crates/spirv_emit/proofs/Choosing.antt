@@ -22,8 +22,8 @@ use Rattle.spirv_emit.proofs.Standing.{Standing, Runs, standing_more, runs_none,
 use Rattle.spirv_emit.proofs.Scope.{Scope, typed_kept}
 use Rattle.spirv_emit.proofs.Rules.{word_type_fine, load_fine, element_fine}
 use Rattle.spirv_emit.proofs.Sorts.{gives}
-use Rattle.spirv_emit.proofs.Leaves as leaves
-use Rattle.spirv_emit.proofs.Leaves.{typed_last, leaf_gives}
+use Rattle.spirv_emit.proofs.LeafRules as leaves
+use Rattle.spirv_emit.proofs.LeafRules.{typed_last, leaf_gives}
 use Rattle.spirv_emit.proofs.Making.{calculation_gives}
 
 -- ## What pieces name

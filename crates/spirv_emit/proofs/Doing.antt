@@ -32,7 +32,7 @@ use Rattle.spirv_emit.proofs.Plainly.{TargetHas}
 use Rattle.spirv_emit.proofs.Fitting.{calculation_fits, WordsHave, MaybeHave, SourcesFit, leaf_fits, append_fits}
 use Rattle.spirv_emit.proofs.Testing.{InPlace, MaybeInPlace, test_tells, all_fetches_do}
 use Rattle.spirv_emit.proofs.Keeping.{instr_keeps}
-use Rattle.spirv_emit.proofs.Instructions.{ViewFits, instruction_does}
+use Rattle.spirv_emit.proofs.EachInstruction.{ViewFits, instruction_does}
 
 module _ (at : Layout) (Has : ℕ → Type 0) (pool : Pool at Has) (ids : Ids) (own : (v : ℕ) → has own_numbers v ≡ true → Has v) (ds : List Declared) (temps : ℕ) (many : at.variables ≡ 25 + 4 * temps) (three_ids : ThreeIds ids) where
   abbrev Fit : Piece → Type 0

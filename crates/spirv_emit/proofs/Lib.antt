@@ -35,7 +35,7 @@ mod Viewing
 mod Storing
 mod Changing
 mod Accessing
-mod Instructions
+mod EachInstruction
 mod Numbered
 mod Bodies
 pub mod Modules
@@ -50,14 +50,14 @@ mod Wider
 mod Scope
 mod Sorts
 mod Rules
-mod Leaves
+mod LeafRules
 mod Making
 mod Choosing
 mod Turning
 mod Settling
 mod Naming
 mod Placed
-mod Preamble
+mod PreambleRules
 mod Opening
 mod FewNumbers
 mod FewPieces
@@ -73,3 +73,4 @@ mod Flowing
 mod Joining
 mod Wholly
 mod Costs
+mod Emitted

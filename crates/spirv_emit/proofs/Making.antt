@@ -30,7 +30,7 @@ use Rattle.spirv_emit.proofs.Standing.{runs_none, runs_then, runs_more, runs_mak
 use Rattle.spirv_emit.proofs.Scope.{Scope, typed_kept}
 use Rattle.spirv_emit.proofs.Rules.{unary_fine, binary_fine, half_fine, select_fine}
 use Rattle.spirv_emit.proofs.Sorts.{one_takes, two_takes, taken_type, step_takes, step_type, steps_give, gives, made_below}
-use Rattle.spirv_emit.proofs.Leaves.{Stand, Run, here, wide_enough, typed_last, leaves_give}
+use Rattle.spirv_emit.proofs.LeafRules.{Stand, Run, here, wide_enough, typed_last, leaves_give}
 
 at_before : (xs : List ℕ) (v i : ℕ) → i < length xs → slice_index (xs ++ v ∷ []) i ≡ slice_index xs i
 at_before [] v i lt = absurd (omega arith)

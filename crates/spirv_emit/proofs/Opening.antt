@@ -20,7 +20,7 @@ use Rattle.spirv_emit.specs.Module.{constants, local, zero_variables}
 use Rattle.spirv_emit.proofs.Passing.{Fine, Passes, maker_here, maker_other, result_fine, made_fine}
 use Rattle.spirv_emit.proofs.Straight.{plain, behind_order, first_fine}
 use Rattle.spirv_emit.proofs.Scope.{Setting, setting_kept}
-use Rattle.spirv_emit.proofs.Preamble.{before, before_setting, before_main, before_void, before_main_type}
+use Rattle.spirv_emit.proofs.PreambleRules.{before, before_setting, before_main, before_void, before_main_type}
 
 -- ## Numbers
 

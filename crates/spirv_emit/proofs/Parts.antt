@@ -31,8 +31,8 @@ calculation_made {c0 = c0} {c1 = c1} at k ids ss p ei es q =
     ∙ ap (λ xs. leaves_ops at c0.next k.leaves ++ steps_ops at (leaf_ids at c0.next k.leaves) (c0.next + leaves_size k.leaves) (c0.next + leaves_size k.leaves) xs) es)
     (omega (arith, e, l))
 
-pub swap_made : {c0 c1 c2 c3 c4 : Code} (at : Layout) (v c : Leaf) (p x rv rc r one zero to : ℕ) → Appends c0 c1 (leaf_ops at c0.next v) (c0.next + leaf_size v) → Appends c1 c2 (leaf_ops at c1.next c) (c1.next + leaf_size c) → Appends c2 c3 (op.AtomicCompareExchange word_type c2.next p one zero zero rv rc ∷ []) (c2.next + 1) → Puts c3 c4 (op.Store to r ∷ []) → rv ≡ leaf_id at c0.next v → rc ≡ leaf_id at c1.next c → r ≡ c2.next → one ≡ at.number 1 → zero ≡ at.number 0 → to ≡ variable at x → Appends c0 c4 (action_ops at c0.next p (Swap v c x)) (c0.next + (leaf_size v + leaf_size c + 1))
-swap_made {c0 = c0} {c1 = c1} {c2 = c2} at v c p x rv rc r one zero to pv pc pa ps ev ec er eo ez et =
+pub swap_made : {c0 c1 c2 c3 c4 : Code} (at : Layout) (v c : Leaf) (p x rv rc r one none to : ℕ) → Appends c0 c1 (leaf_ops at c0.next v) (c0.next + leaf_size v) → Appends c1 c2 (leaf_ops at c1.next c) (c1.next + leaf_size c) → Appends c2 c3 (op.AtomicCompareExchange word_type c2.next p one none none rv rc ∷ []) (c2.next + 1) → Puts c3 c4 (op.Store to r ∷ []) → rv ≡ leaf_id at c0.next v → rc ≡ leaf_id at c1.next c → r ≡ c2.next → one ≡ at.number 1 → none ≡ at.number 0 → to ≡ variable at x → Appends c0 c4 (action_ops at c0.next p (Swap v c x)) (c0.next + (leaf_size v + leaf_size c + 1))
+swap_made {c0 = c0} {c1 = c1} {c2 = c2} at v c p x rv rc r one none to pv pc pa ps ev ec er eo ez et =
     let e = pv.next_is in
     let f : c2.next ≡ c0.next + leaf_size v + leaf_size c = pc.next_is ∙ ap (λ n. n + leaf_size c) e in
     let g = ec ∙ ap (λ n. leaf_id at n c) e in
@@ -40,8 +40,8 @@ swap_made {c0 = c0} {c1 = c1} {c2 = c2} at v c p x rv rc r one zero to pv pc pa 
     let er' = er ∙ f in
     appends_to (appends_then pv (appends_then pc (then_puts pa ps))) (cc (f, g, h, er', ev, eo, ez, et)) (omega (arith, f))
 
-pub reach_made : {c0 c1 c2 c3 c4 : Code} (at : Layout) (b : ℕ) (k : Calculation) (a : Action) (l place pointer zero : ℕ) → Appends c0 c1 (calculation_ops at c0.next k) (c0.next + calculation_size k) → Appends c1 c2 (op.AccessChain to_word c1.next (buffer_at b) (zero ∷ place ∷ []) ∷ []) (c1.next + 1) → Appends c2 c3 (action_ops at c2.next pointer a) (c2.next + action_size a) → Puts c3 c4 (op.Branch l ∷ []) → place ≡ calculation_id at c0.next k → pointer ≡ c1.next → zero ≡ at.number 0 → Appends c0 c4 (reach_ops at c0.next b k a l) (c0.next + calculation_size k + 1 + action_size a)
-reach_made {c0 = c0} {c1 = c1} {c2 = c2} at b k a l place pointer zero pk pc pa pb ek ep ez =
+pub reach_made : {c0 c1 c2 c3 c4 : Code} (at : Layout) (b : ℕ) (k : Calculation) (a : Action) (l place pointer none : ℕ) → Appends c0 c1 (calculation_ops at c0.next k) (c0.next + calculation_size k) → Appends c1 c2 (op.AccessChain to_word c1.next (buffer_at b) (none ∷ place ∷ []) ∷ []) (c1.next + 1) → Appends c2 c3 (action_ops at c2.next pointer a) (c2.next + action_size a) → Puts c3 c4 (op.Branch l ∷ []) → place ≡ calculation_id at c0.next k → pointer ≡ c1.next → none ≡ at.number 0 → Appends c0 c4 (reach_ops at c0.next b k a l) (c0.next + calculation_size k + 1 + action_size a)
+reach_made {c0 = c0} {c1 = c1} {c2 = c2} at b k a l place pointer none pk pc pa pb ek ep ez =
     let e = pk.next_is in
     let f : c2.next ≡ c0.next + calculation_size k + 1 = pc.next_is ∙ ap (λ n. n + 1) e in
     let ep' = ep ∙ e in

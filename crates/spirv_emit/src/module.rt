@@ -22,9 +22,6 @@ use shader_model::Shader;
 use spirv_words::Builder;
 use std::alloc::{AllocError, Global};
 
-/// No shader has so many numbers: each of at most 65,536 nodes names at most sixteen, and views have few parameters.
-const MOST_NUMBERS: usize = 16_777_216;
-
 // The storage class of a function's variables.
 const FUNCTION: u32 = 7;
 
@@ -133,9 +130,6 @@ fn plan_of(alloc: Global, shader: &Shader) -> Result<Plan, AllocError>
     ensures good { OnOk result (IsGood (program_of shader.now)) }
 {
     let numbers = numbers_of(alloc, shader)?;
-    if numbers.len() > MOST_NUMBERS {
-        return Err(AllocError);
-    }
     let variables = 25 + 4 * temps_of(shader);
     Ok(Plan {
         alloc,
