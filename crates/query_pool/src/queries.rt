@@ -1,9 +1,13 @@
 ghost use Rattle.std.specs.Prelude.{◌≡◌, ◌+◌, ◌<◌, ◌≤◌, ◌^◌, ◌++◌, ◌∷◌, [], ◌↔◌, All, IsTrue, None, OnOk, OnErr, MatchOption, sum_by};
-ghost use Rattle.query_pool.specs.Asked.{Marks, Answered, place_of, part_between, invocations_between};
+ghost use Rattle.std.specs.BTreeMap.Range.{entries_between};
+ghost use Rattle.std.specs.Ordering.{nat_cmp};
+ghost use Rattle.std.specs.declared.ops.Bound.TheVariants.{Included, Excluded};
+ghost use Rattle.query_pool.specs.Asked.{Marks, Answered, place_of};
+ghost use Rattle.query_pool.specs.ByCommand.{ran_within};
 
 use dx_types::CallNo;
 use std::alloc::{AllocError, Global};
-use std::collections::VecDeque;
+use std::collections::{BTreeMap, VecDeque};
 use std::marker::Model;
 use vk_types::{QueryMark, QueryValue};
 
@@ -30,37 +34,27 @@ pub struct Count {
     pub invocations: u64,
 }
 
-impl Count {
-    // The command's invocations where its number is from `from` on and below `to`, else 0.
-    fn between(&self, from: u64, to: u64) -> u64
-        ensures { result ≡ part_between from to self.now }
-    {
-        if self.command >= from && self.command < to {
-            self.invocations
-        } else {
-            0
-        }
-    }
-}
-
 /// The queries that are begun, and those that are ended and not answered, in order.
 #[derive(Drop)]
 pub struct Queries {
     begun: Vec<Begun>,
     ended: VecDeque<Ended>,
     counts: Vec<Count>,
+    // the invocations of each command that was counted, so that an answer adds up the commands between its marks alone
+    ran: BTreeMap<u64, u64>,
 }
 
 impl Model for Queries {
     ghost use Rattle.std.specs.Prelude.{◌<◌, ◌^◌, sum_by};
     ghost use Rattle.query_pool.specs.Asked.{Asked};
+    ghost use Rattle.query_pool.specs.ByCommand.{IsByCommand};
     ghost use Rattle.query_pool.specs.Rising.{RisesBy};
 
     ghost Value = { Asked };
 
     ghost view = { λ q. record { begun = q.begun.items; ended = q.ended.items; counts = q.counts.items } };
 
-    ghost invariant = { λ q. RisesBy (λ e. e.call) q.ended.items × (sum_by (λ c. c.invocations) q.counts.items < 2 ^ 63) };
+    ghost invariant = { λ q. RisesBy (λ e. e.call) q.ended.items × (sum_by (λ c. c.invocations) q.counts.items < 2 ^ 63) × IsByCommand q.counts.items q.ran.entries };
 }
 
 impl Queries {
@@ -72,6 +66,7 @@ impl Queries {
             begun: Vec::new(alloc),
             ended: VecDeque::new(alloc),
             counts: Vec::new(alloc),
+            ran: BTreeMap::new(alloc),
         }
     }
 
@@ -110,15 +105,19 @@ impl Queries {
         ensures ok { OnOk result (self.new ≡ record self.old { counts = self.old.counts ++ record { command = command; invocations = invocations } ∷ [] }) }
         ensures err { OnErr result (self.new ≡ self.old) }
     {
-        self.counts.push(Count {
+        self.counts.reserve(1)?;
+        let before = self.ran.get(&command).copied().unwrap_or(0);
+        self.ran.insert(command, before + invocations)?;
+        self.counts.push_reserved(Count {
             command,
             invocations,
-        })?;
+        });
         Ok(())
     }
 
     /// The value of the query that was ended first, which goes, where its End is a call of at most `upto`. Else no
-    /// ended query has an End of at most `upto`. The value is right once all dispatches before the End were counted.
+    /// ended query has an End of at most `upto`. The value is right once all dispatches before the End were counted. It
+    /// takes the logarithm of all commands, and the commands between the two marks.
     pub fn answer(&mut self, upto: CallNo) -> Option<QueryValue>
         ensures { MatchOption result
             ((self.new ≡ self.old) × All (λ e. upto < e.call) self.old.ended)
@@ -131,7 +130,7 @@ impl Queries {
         Some(QueryValue {
             call: ended.call,
             query: ended.query,
-            value: counted_between(&self.counts, ended.from, ended.to),
+            value: counted_between(&self.ran, ended.from, ended.to),
         })
     }
 }
@@ -142,9 +141,22 @@ fn find_begun(begun: &[Begun], query: u32) -> Option<usize>
     begun.iter().position(|b| b.query == query)
 }
 
-fn counted_between(counts: &[Count], from: u64, to: u64) -> u64
-    requires { invocations_between from to counts.now < 2 ^ 63 }
-    ensures { result ≡ invocations_between from to counts.now }
+fn counted_between(ran: &BTreeMap<u64, u64>, from: u64, to: u64) -> u64
+    requires { sum_by (λ e. e.1) ran.now.entries < 2 ^ 63 }
+    ensures { result ≡ ran_within from to ran.now.entries }
 {
-    counts.iter().map(|c| c.between(from, to)).sum()
+    if to <= from {
+        return 0;
+    }
+    ran_between(ran, from, to)
+}
+
+fn ran_between(ran: &BTreeMap<u64, u64>, from: u64, to: u64) -> u64
+    requires forward { from ≤ to }
+    requires fits { sum_by (λ e. e.1) ran.now.entries < 2 ^ 63 }
+    ensures { result ≡ sum_by (λ e. e.1) (entries_between nat_cmp (Included from) (Excluded to) ran.now.entries) }
+{
+    ran.range(from..to)
+        .map(|(_, invocations)| *invocations)
+        .sum()
 }

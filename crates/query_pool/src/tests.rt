@@ -9,7 +9,8 @@ fn parts(value: Option<QueryValue>) -> Option<(u32, u32, u64)> {
     value.map(|v| (v.call, v.query, v.value))
 }
 
-// Query 1 counts command 1 and later commands 3 and 4, query 2 counts command 2. Commands run in any order.
+// Query 1 counts command 1 and later commands 3 and 4, query 2 counts command 2. Commands run in any order, and what is
+// counted of one command adds up.
 fn marked(alloc: Global) -> Result<Queries, AllocError>
     ensures { IfOk result (λ q. q.counts ≡ []) }
 {
@@ -60,6 +61,7 @@ fn counted(alloc: Global) -> Result<Queries, AllocError> {
     queries.count(4, 1000)?;
     queries.count(3, 100)?;
     queries.count(5, 7)?;
+    queries.count(4, 20)?;
     Ok(queries)
 }
 
@@ -72,7 +74,7 @@ fn counts_are_added_up_between_the_marks(rt: HostRuntime) -> Result<(), Fail> {
         (9, Some((7u32, 1u32, 3u64))),
         (9, Some((9, 2, 10))),
         (11, None),
-        (12, Some((12, 1, 1100))),
+        (12, Some((12, 1, 1120))),
         (u32::MAX, None),
     ];
     for (upto, value) in cases {
