@@ -4,5 +4,6 @@ pub mod Placed
 pub mod Whole
 pub mod Acts
 pub mod Broken
+pub mod Rising
 mod Served
 mod Best

@@ -5,7 +5,8 @@ ghost use Rattle.vk_types.specs.Listing.{acts};
 ghost use Rattle.vk_types.specs.Listing as listing;
 ghost use Rattle.vk_types.specs.Before.{On_device, side, before};
 ghost use Rattle.vk_types.specs.Allowed.{IsAllowed};
-ghost use Rattle.vk_types.specs.Lists.{IsReordering};
+ghost use Rattle.std.specs.List.{AllByRecursion};
+ghost use Rattle.vk_types.specs.Lists.{IsReordering, Pairwise};
 ghost use Rattle.vk_order.specs.Order.{ordered_by, is_act_in, is_new_at, late_of, is_broken};
 ghost use Rattle.vk_order.specs.Order as wanted;
 ghost use Rattle.vk_order.specs.Ends.{IsOrderEnd};
@@ -73,10 +74,12 @@ fn stands_in(places: &[u32], place: u32) -> bool
     places.iter().any(|p| *p == place)
 }
 
-fn is_new(ops: &[VkOp], front: &[u32], place: u32) -> bool
+// Whether the place is an act's and none of those in front, of which each is below `past`.
+fn is_new(ops: &[VkOp], front: &[u32], past: u64, place: u32) -> bool
+    requires { AllByRecursion (λ p. p < past) front.now }
     ensures { result ≡ wanted.is_new ops.now front.now place }
 {
-    is_act_at(ops, place) && !stands_in(front, place)
+    is_act_at(ops, place) && (u64::from(place) >= past || !stands_in(front, place))
 }
 
 // The first place of the order that is no act's or repeats, or its length.
@@ -85,10 +88,13 @@ fn first_odd(ops: &[VkOp], order: &[u32]) -> usize
     ensures new { (i : ℕ) → i < result → is_new_at ops.now order.now i ≡ true }
     ensures odd { is_new_at ops.now order.now result ≡ false }
 {
+    let mut past = 0;
     for at in 0..order.len() {
-        if !is_new(ops, &order[..at], order[at]) {
+        let place = order[at];
+        if !is_new(ops, &order[..at], past, place) {
             return at;
         }
+        past = past.max(u64::from(place) + 1);
     }
     order.len()
 }
@@ -135,12 +141,29 @@ fn least_broken(ops: &[VkOp], order: &[u32], second: usize) -> usize
     least
 }
 
+// Whether each place is greater than those before it.
+fn rises(order: &[u32]) -> bool
+    ensures { result ≡ true → Pairwise (λ p q. p < q) order.now }
+{
+    let mut past = 0;
+    for place in order {
+        if u64::from(*place) < past {
+            return false;
+        }
+        past = u64::from(*place) + 1;
+    }
+    true
+}
+
 fn first_broken(ops: &[VkOp], order: &[u32]) -> Result<(), OrderEnd>
     requires few { length ops.now < 2 ^ 32 }
     requires whole { IsReordering (acts ops.now) order.now }
     ensures ok { IsOk result ↔ IsAllowed ops.now order.now }
     ensures err { IfErr result (IsOrderEnd ops.now order.now) }
 {
+    if rises(order) {
+        return Ok(());
+    }
     for second in 0..ops.len() {
         let first = least_broken(ops, order, second);
         if first < second {
@@ -156,9 +179,11 @@ fn first_broken(ops: &[VkOp], order: &[u32]) -> Result<(), OrderEnd>
 /// Whether the listing allows the order, which names places of its operations from 0: each act stands in it once, and
 /// none before an act that the listing orders before it.
 ///
-/// It takes no memory, so each place is looked for among those before it in the order: n * n / 2 comparisons of numbers
-/// for n operations. Of two acts that the order turns round, and of these alone, what stands between them is walked, up to
-/// the first barrier or fence that orders them; so an order near the listing's own takes no more than that.
+/// It takes no memory, so what it looks for it looks for anew. An order that rises, as the listing's own does, takes time in
+/// proportion to it. In any other order of n places, each that is less than an earlier one is looked for among those before it,
+/// and what stands behind each of the listing's places is looked through: n * n steps at most for each of the two, of which a
+/// step is a comparison of numbers. Of two acts that the order turns round, and of these alone, what stands between them in
+/// the listing is walked, up to the first barrier or fence that orders them.
 pub fn allowed(ops: &[VkOp], order: &[u32]) -> Result<(), OrderEnd>
     requires { length ops.now < 2 ^ 32 }
     ensures ok { IsOk result ↔ IsAllowed ops.now order.now }

@@ -1,6 +1,6 @@
 use super::*;
 use dx_types::Range;
-use std::alloc::Global;
+use std::alloc::{AllocError, Global};
 use std::test::Fail;
 use vk_types::{Access, Barrier, Command, Groups, Mask, SlotList, SlotName, SlotRange, VkOp, Work};
 
@@ -201,5 +201,35 @@ fn orders(rt: HostRuntime) -> Result<(), Fail> {
         allowed(&ops, &[0, 2, 3, 3]),
         Err(OrderEnd::NotAll { at: 3 })
     );
+    Ok(())
+}
+
+// So many operations that nothing orders.
+fn fills(alloc: Global, count: u32) -> Result<Vec<VkOp>, AllocError> {
+    let mut ops = Vec::new(alloc);
+    for i in 0..count {
+        ops.push(fill(u64::from(i) + 1, i))?;
+    }
+    Ok(ops)
+}
+
+// A listing of many operations in its own order, and one with two acts turned round that nothing orders.
+#[test]
+fn orders_of_many_operations(rt: HostRuntime) -> Result<(), Fail> {
+    let alloc = rt.alloc();
+    let mut order = Vec::new(alloc);
+    for i in 0..100_000u32 {
+        order.push(i)?;
+    }
+    let ops = fills(alloc, 100_000)?;
+    assert_eq!(rt; ops.len(), 100_000);
+    assert_eq!(rt; allowed(&ops, &order), Ok(()));
+    let mut turned = [1, 0].to_vec(alloc)?;
+    for i in 2..5_000u32 {
+        turned.push(i)?;
+    }
+    let ops = fills(alloc, 5_000)?;
+    assert_eq!(rt; ops.len(), 5_000);
+    assert_eq!(rt; allowed(&ops, &turned), Ok(()));
     Ok(())
 }
