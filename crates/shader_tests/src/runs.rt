@@ -1,9 +1,14 @@
+ghost use Rattle.std.specs.Prelude.{◌≡◌, true};
+ghost use Rattle.shader_model.specs.Dispatch.{is_allowed};
+
 use crate::computes::{ATOMICS, Atomic, COMPUTES, Computes, OLD, SOURCES, VALUES};
 use crate::shaders::{GROUPED, Runs, SHADERS};
 use shader_eval::{Frame, run_groups};
 use shader_model::Shader;
 use shader_slots::{Slots, Whole};
 use shader_tokens::{ShaderEnd, decode};
+use spirv_emit::emit;
+use spirv_run::Machine;
 use std::alloc::{AllocError, Global};
 use std::test::Fail;
 
@@ -39,14 +44,61 @@ struct Bound<'a> {
     writes: &'a [u8],
 }
 
+/// What runs a dispatch: the shader's tree, or its module.
+#[derive(Clone, Copy)]
+enum By {
+    Tree,
+    Module,
+}
+
+const BOTH: [By; 2] = [By::Tree, By::Module];
+
+/// Whether a dispatch of a module may have so many groups of this size.
+fn is_few(groups: [u32; 3], size: [u32; 3]) -> bool
+    ensures { result ≡ true → is_allowed groups size ≡ true }
+{
+    let [x, y, z] = groups;
+    let [a, b, c] = size;
+    if x > 65_535 || y > 65_535 || z > 65_535 || a > 1024 || b > 1024 || c > 1024 {
+        return false;
+    }
+    let count = x as u128 * y as u128 * z as u128;
+    let threads = a as u128 * b as u128 * c as u128;
+    count * threads <= 16_777_216
+}
+
+/// Runs a dispatch, and answers how many invocations ran. A module of a dispatch that is too large isn't run.
+fn dispatch(
+    alloc: Global,
+    by: By,
+    shader: &Shader,
+    groups: [u32; 3],
+    slots: &mut Slots<'_>,
+) -> Result<u64, AllocError> {
+    match by {
+        By::Tree => {
+            let mut frame = Frame::new(alloc, shader)?;
+            Ok(run_groups(shader, groups, &mut frame, slots))
+        }
+        By::Module => {
+            let module = emit(alloc, shader)?;
+            let mut machine = Machine::new(alloc, &module)?;
+            if !is_few(groups, machine.group()) {
+                return Ok(0);
+            }
+            Ok(machine.dispatch(groups, slots))
+        }
+    }
+}
+
 /// How many invocations ran, and the bytes of unordered access view 0 afterwards.
 fn ran(
     alloc: Global,
+    by: By,
     shader: &Shader,
     groups: [u32; 3],
     bound: Bound<'_>,
 ) -> Result<Option<(u64, Vec<u8>)>, AllocError> {
-    let mut frame = Frame::new(alloc, shader)?;
     let mut slots = Slots::new();
     if bound.constants.len() % 4 == 0 && bound.constants.len() <= 65_536 {
         slots.bind_constant(0, bound.constants);
@@ -60,7 +112,7 @@ fn ran(
         return Ok(None);
     }
     slots.bind_write(0, Whole::new(bytes, 0, len));
-    let count = run_groups(shader, groups, &mut frame, &mut slots);
+    let count = dispatch(alloc, by, shader, groups, &mut slots)?;
     match slots.take_write(0) {
         Some(part) => Ok(Some((count, part.into_bytes()))),
         None => Ok(None),
@@ -70,6 +122,7 @@ fn ran(
 /// The words of unordered access view 0 after a dispatch, as bytes; none where it could not be bound.
 fn left(
     alloc: Global,
+    by: By,
     items: &[u32],
     groups: [u32; 3],
     words: [&[u32]; 3],
@@ -83,7 +136,7 @@ fn left(
         reads: &reads,
         writes: &writes,
     };
-    match ran(alloc, &shader, groups, bound)? {
+    match ran(alloc, by, &shader, groups, bound)? {
         Some((_, bytes)) => Ok(bytes),
         None => Ok(Vec::new(alloc)),
     }
@@ -128,74 +181,99 @@ fn changing(alloc: Global, first: u32) -> Result<Vec<u32>, AllocError> {
     Ok(items)
 }
 
+/// What the tree's evaluator and the module's machine make of each instruction.
 #[test]
 fn instructions_compute(rt: HostRuntime) -> Result<(), Fail> {
     let alloc = rt.alloc();
-    for case in &COMPUTES {
-        let items = computing(alloc, case)?;
-        let bytes = left(alloc, &items, [1, 1, 1], [&[], &[], case.3])?;
-        assert_eq!(rt; bytes, bytes_of(alloc, case.3)?, "of {}", case.0);
-    }
-    for Atomic(first, new) in &ATOMICS {
-        let mut words = OLD.to_vec(alloc)?;
-        words.extend_from_slice(&[0, 0, 0, 0])?;
-        let items = changing(alloc, *first)?;
-        let bytes = left(alloc, &items, [1, 1, 1], [&[], &[], &words])?;
-        let mut want = bytes_of(alloc, new)?;
-        want.extend_from_slice(&bytes_of(alloc, &OLD)?)?;
-        assert_eq!(rt; bytes, want, "of {first}");
+    for by in BOTH {
+        for case in &COMPUTES {
+            let items = computing(alloc, case)?;
+            let bytes = left(alloc, by, &items, [1, 1, 1], [&[], &[], case.3])?;
+            assert_eq!(rt; bytes, bytes_of(alloc, case.3)?, "of {}", case.0);
+        }
+        for Atomic(first, new) in &ATOMICS {
+            let mut words = OLD.to_vec(alloc)?;
+            words.extend_from_slice(&[0, 0, 0, 0])?;
+            let items = changing(alloc, *first)?;
+            let bytes = left(alloc, by, &items, [1, 1, 1], [&[], &[], &words])?;
+            let mut want = bytes_of(alloc, new)?;
+            want.extend_from_slice(&bytes_of(alloc, &OLD)?)?;
+            assert_eq!(rt; bytes, want, "of {first}");
+        }
     }
     Ok(())
 }
 
+/// What both make of shaders.
 #[test]
 fn shaders_leave(rt: HostRuntime) -> Result<(), Fail> {
     let alloc = rt.alloc();
-    for Runs(name, items, constants, reads, writes, want) in &SHADERS {
-        let bytes = left(alloc, items, [1, 1, 1], [constants, reads, writes])?;
-        assert_eq!(rt; bytes, bytes_of(alloc, want)?, "{name}");
-    }
-    for Runs(name, items, constants, reads, writes, want) in &GROUPED {
-        let bytes = left(alloc, items, [2, 1, 2], [constants, reads, writes])?;
-        assert_eq!(rt; bytes, bytes_of(alloc, want)?, "{name}");
+    for by in BOTH {
+        for Runs(name, items, constants, reads, writes, want) in &SHADERS {
+            let bytes = left(alloc, by, items, [1, 1, 1], [constants, reads, writes])?;
+            assert_eq!(rt; bytes, bytes_of(alloc, want)?, "{name}");
+        }
+        for Runs(name, items, constants, reads, writes, want) in &GROUPED {
+            let bytes = left(alloc, by, items, [2, 1, 2], [constants, reads, writes])?;
+            assert_eq!(rt; bytes, bytes_of(alloc, want)?, "{name}");
+        }
     }
     Ok(())
 }
 
-/// The counters of threads 0 to 63, whose inputs are their numbers and whose constant is 250, after three groups of them.
-#[test]
-fn counters(rt: HostRuntime) -> Result<(), Fail> {
-    let alloc = rt.alloc();
+/// The counters of threads 0 to 63, whose inputs are their numbers and whose constant is 250, after these groups of them.
+fn counted(alloc: Global, by: By, groups: [u32; 3]) -> Result<Option<(u64, Vec<u8>)>, Fail> {
     let shader = shader_of(alloc, &COUNTER)?;
     let mut input = Vec::new(alloc);
-    let mut zeros = Vec::new(alloc);
-    let mut want = Vec::new(alloc);
     for k in 0..64u32 {
         input.push(k)?;
     }
-    for k in 0..256u32 {
-        zeros.push(0u32)?;
-        want.push(if k < 58 || k >= 250 { 3u32 } else { 0 })?;
-    }
     let constants = bytes_of(alloc, &[250, 0, 0, 0])?;
     let reads = bytes_of(alloc, &input)?;
-    let writes = bytes_of(alloc, &zeros)?;
+    let writes = vec![in alloc; 0; 1024]?;
     let bound = Bound {
         constants: &constants,
         reads: &reads,
         writes: &writes,
     };
-    for (groups, count) in [
-        ([1, 3, 1], 192),
-        ([1, 1, 3], 192),
-        ([0, 1, 1], 0),
-        ([65_536, 1, 1], 0),
-        ([65_535, 5, 1], 0),
-    ] {
-        let (ran, bytes) = ran(alloc, &shader, groups, bound)?.expect(&rt, "the view");
-        assert_eq!(rt; ran, count);
-        let want = if count == 0 { &zeros } else { &want };
-        assert_eq!(rt; bytes, bytes_of(alloc, want)?);
+    Ok(ran(alloc, by, &shader, groups, bound)?)
+}
+
+/// The 256 counters after so many groups.
+fn counters_after(alloc: Global, groups: u32) -> Result<Vec<u8>, AllocError> {
+    let mut bytes = Vec::new(alloc);
+    for k in 0..256u32 {
+        let count = if k < 58 || k >= 250 { groups } else { 0 };
+        bytes.extend_from_slice(&count.to_le_bytes())?;
     }
+    Ok(bytes)
+}
+
+#[test]
+fn counters(rt: HostRuntime) -> Result<(), Fail> {
+    let alloc = rt.alloc();
+    for by in BOTH {
+        for (groups, count) in [([1, 3, 1], 3), ([1, 1, 3], 3), ([0, 1, 1], 0)] {
+            let (ran, bytes) = counted(alloc, by, groups)?.expect(&rt, "the view");
+            assert_eq!(rt; ran, 64 * u64::from(count));
+            assert_eq!(rt; bytes, counters_after(alloc, count)?);
+        }
+    }
+    // more groups, or more invocations, than a dispatch may have
+    for groups in [[65_536, 1, 1], [65_535, 5, 1]] {
+        let (ran, bytes) = counted(alloc, By::Tree, groups)?.expect(&rt, "the view");
+        assert_eq!(rt; ran, 0);
+        assert_eq!(rt; bytes, counters_after(alloc, 0)?);
+    }
+    Ok(())
+}
+
+/// As many invocations as there may be, by the module.
+#[test]
+fn most_invocations(rt: HostRuntime) -> Result<(), Fail> {
+    let alloc = rt.alloc();
+    let (ran, bytes) = counted(alloc, By::Module, [1, 4096, 64])?.expect(&rt, "the view");
+    assert_eq!(rt; ran, 16_777_216);
+    assert_eq!(rt; bytes, counters_after(alloc, 262_144)?);
     Ok(())
 }
