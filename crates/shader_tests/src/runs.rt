@@ -9,6 +9,7 @@ use shader_slots::{Slots, Whole};
 use shader_tokens::{ShaderEnd, decode};
 use spirv_emit::emit;
 use spirv_run::Machine;
+use spirv_words::{ModuleEnd, read_module};
 use std::alloc::{AllocError, Global};
 use std::test::Fail;
 
@@ -275,5 +276,40 @@ fn most_invocations(rt: HostRuntime) -> Result<(), Fail> {
     let (ran, bytes) = counted(alloc, By::Module, [1, 4096, 64])?.expect(&rt, "the view");
     assert_eq!(rt; ran, 16_777_216);
     assert_eq!(rt; bytes, counters_after(alloc, 262_144)?);
+    Ok(())
+}
+
+/// Each front of the smallest shader's module has a bad word.
+#[test]
+fn fronts_of_a_module(rt: HostRuntime) -> Result<(), Fail> {
+    let alloc = rt.alloc();
+    let shader = shader_of(alloc, &[0x401, 1, 1, 1])?;
+    let module = emit(alloc, &shader)?;
+    let words = module.words();
+    assert!(rt; words.len() < 4096);
+    for (at, _) in words.iter().enumerate() {
+        match read_module(alloc, &words[..at]) {
+            Ok(_) => panic!(rt; "the first {at} words are a module"),
+            Err(ModuleEnd::NoMemory) => panic!(rt; "no memory"),
+            Err(ModuleEnd::Bad(fault)) => assert!(rt; fault.word as usize <= at),
+        }
+    }
+    assert_eq!(rt; read_module(alloc, words)?.words(), words);
+    Ok(())
+}
+
+/// A shader that is nearly as long as one may be: 8,000 additions of 1, and a store.
+#[test]
+fn long_shader(rt: HostRuntime) -> Result<(), Fail> {
+    let alloc = rt.alloc();
+    let mut items = [0x401, 1, 1, 1, 0x202, 1, 0x405, 0, 0, 0].to_vec(alloc)?;
+    for _ in 0..8000 {
+        items.extend_from_slice(&[0x812, 0x10, 0, 1, 1, 0, 0, 0])?;
+    }
+    items.extend_from_slice(&[0x10831, 0x100, 1, 0, 0, 0, 0, 0])?;
+    for by in BOTH {
+        let bytes = left(alloc, by, &items, [1, 1, 1], [&[], &[], &[0]])?;
+        assert_eq!(rt; bytes, bytes_of(alloc, &[8000])?);
+    }
     Ok(())
 }
