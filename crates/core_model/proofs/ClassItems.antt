@@ -19,7 +19,7 @@ use Rattle.core_model.specs.Playing.{HasBlock, Own, Of_class}
 use Rattle.core_model.specs.AppActs.{answer, TakesTurn}
 use Rattle.core_model.specs.Lawful.{ClassFits, PlaysRightly, IsLawful}
 use Rattle.core_model.specs.Kept.{PlacesRight, Kept}
-use Rattle.core_model.specs.ClassBlocks.{Stand, Held, Gone, stand, IsOfClass, IsFor, ClassRight, ClassesRight}
+use Rattle.core_model.specs.ClassBlocks.{Stand, Held, Gone, stand, IsInClass, IsFor, ClassRight, ClassesRight}
 use Rattle.core_model.proofs.Giving.{has_parts}
 use Rattle.core_model.proofs.ClassMoves.{turned_class, taken_class, retired_class, none_held, takes_made, takes_home}
 use Rattle.core_model.proofs.ClassSteps.{stand_bound, stand_updated, stand_retired, stand_live, from_parts, from_by, write_alike, fenced_alike, read_alike, marks_none, marks_one}
@@ -81,7 +81,7 @@ had_class reading script buffer block core mid (Of_class _ _ _ class _ _ board i
     taken_class script core.board at blocks number marked turns h buffer block board (subst (λ o. IsFor o block) (sym is) (less, in_class t.0 class block core.board board t.1 refl less)) none
     (λ c i l m k. takes_made t.0 class block core.board board t.1 c i k) (λ c b place l o n e. takes_home t.0 class block core.board board t.1 c b place n e)
   where
-    in_class : (choice : BlockChoice) (class block : ℕ) (before after : Board) → Takes choice class block before after → before ≡ core.board → class < 8 → IsOfClass class block
+    in_class : (choice : BlockChoice) (class block : ℕ) (before after : Board) → Takes choice class block before after → before ≡ core.board → class < 8 → IsInClass class block
     in_class choice class block before after (From_home _ _ place _ e) same less = let x = places.home class place block (ap (λ d. slice_get (d.places class) place) (sym same) ∙ e) in (x.0, x.1)
     in_class choice class block before after (New_made _ _ more) same less = ((omega arith), (omega (arith, more)))
 

@@ -8,15 +8,15 @@ use Rattle.core_model.specs.CoreState.{has_class, Board}
 use Rattle.core_model.specs.Placing.{BlockChoice, Takes, From_home, New_made}
 use Rattle.core_model.specs.OtherParts.{is_among}
 use Rattle.core_model.specs.Succession.{only_class}
-use Rattle.core_model.specs.ClassBlocks.{Stand, Apart, At_home, On_way, Held, Gone, IsOfClass, IsFor, ClassRight}
+use Rattle.core_model.specs.ClassBlocks.{Stand, Apart, At_home, On_way, Held, Gone, IsInClass, IsFor, ClassRight}
 use Rattle.core_model.proofs.Binding.{or_left, or_right}
 use Rattle.core_model.proofs.Keeping.{set_other}
 
 -- two classes have no block in common
-pub one_class : (c d b : ℕ) → IsOfClass c b → IsOfClass d b → c ≡ d
+pub one_class : (c d b : ℕ) → IsInClass c b → IsInClass d b → c ≡ d
 one_class c d b h k = let a = h.0 in let e = h.1 in let f = k.0 in let g = k.1 in omega (arith, a, e, f, g)
 
-pub of_class : (class b : ℕ) → class < 8 → IsOfClass class b → has_class b ≡ true
+pub of_class : (class b : ℕ) → class < 8 → IsInClass class b → has_class b ≡ true
 of_class class b l h = let e = h.1 in lt-ltb b 512 (omega (arith, l, e))
 
 mark_last : (script : Script) (ts : List Turn) (t : Turn) → mark_count script (ts ++ t ∷ []) ≡ mark_count script ts + marks_of script t
@@ -66,7 +66,7 @@ module _ (script : Script) (board : Board) (at : ℕ → Stand) (blocks : ℕ �
 
   module _ (buffer block : ℕ) (after : Board) (is_for : IsFor (script.class buffer) block) (none : (b : ℕ) → at b ≡ Held buffer → ⊥)
       (still_made : (class i : ℕ) → class < 8 → i < 64 → i < after.made class → (class * 64 + i ≡ block) ⊎ (i < board.made class))
-      (still_home : (class b place : ℕ) → class < 8 → IsOfClass class b → (b ≡ block → ⊥) → slice_get (board.places class) place ≡ Some (Some b) → (p : ℕ) × (slice_get (after.places class) p ≡ Some (Some b))) where
+      (still_home : (class b place : ℕ) → class < 8 → IsInClass class b → (b ≡ block → ⊥) → slice_get (board.places class) place ≡ Some (Some b) → (p : ℕ) × (slice_get (after.places class) p ≡ Some (Some b))) where
     abbrev now : ℕ → Stand
     now = updated block (Held buffer) at
 
@@ -190,14 +190,14 @@ module _ (script : Script) (board : Board) (at : ℕ → Stand) (blocks : ℕ �
 
   -- A block comes home -----------------------------------------------------------------------------------------------------------------
 
-  pub homed_class : (block place class : ℕ) → IsOfClass class block → at block ≡ On_way → slice_get (board.places class) place ≡ Some None
+  pub homed_class : (block place class : ℕ) → IsInClass class block → at block ≡ On_way → slice_get (board.places class) place ≡ Some None
       → ClassRight script (record board { places = updated class (slice_set (board.places class) place (Some block)) board.places }) (updated block At_home at) blocks number marked turns
   homed_class block place class o way vacant = record {
     made = λ c i l m k z. h.made c i l m k (old (c * 64 + i) Apart (λ x. cc x) z);
     home = λ c b l q z.
         elim (cases_Bool (b == block)) [
           | inl t ↦
-              let same : c ≡ class = one_class c class b q (subst (IsOfClass class) (sym (eqb-true b block t)) o) in (
+              let same : c ≡ class = one_class c class b q (subst (IsInClass class) (sym (eqb-true b block t)) o) in (
                 place,
                 ap (λ x. slice_get (cond x (slice_set (board.places class) place (Some block)) (board.places c)) place) (eq-eqb c class same)
                     ∙ set_at (board.places class) place (Some block) None vacant ∙ ap (λ b. Some (Some b)) (sym (eqb-true b block t)),

@@ -45,7 +45,7 @@ module _ (meaning : Meaning) (script : Script) (lawful : IsLawful meaning script
         | inr h ↦ subst (λ c. cond c (call_of x) (call_of x - 1) < call_of t) (sym h) (let s = (n.1 h).1 in omega (arith, s, z))
       ]
 
-  after_last : (mid front : List Turn) (x t : Turn) (back : List Turn) → script.turns ≡ front ++ x ∷ (mid ++ t ∷ back) → last_call (x ∷ []) < call_of t
+  pub after_last : (mid front : List Turn) (x t : Turn) (back : List Turn) → script.turns ≡ front ++ x ∷ (mid ++ t ∷ back) → last_call (x ∷ []) < call_of t
   after_last [] front x t back e = next_last front x t back e
   after_last (m ∷ mid) front x t back e =
       let a = next_last front x m (mid ++ t ∷ back) e in

@@ -15,7 +15,7 @@ abbrev pub AtEach : (List Turn → Turn → List Turn → Type 0) → List Turn 
 AtEach P pre [] = Unit {0}
 AtEach P pre (t ∷ ts) = P pre t ts × AtEach P (pre ++ t ∷ []) ts
 
-at_turn : (P : List Turn → Turn → List Turn → Type 0) (pre turns : List Turn) → AtEach P pre turns → (front : List Turn) (t : Turn) (back : List Turn) → turns ≡ front ++ t ∷ back → P (pre ++ front) t back
+pub at_turn : (P : List Turn → Turn → List Turn → Type 0) (pre turns : List Turn) → AtEach P pre turns → (front : List Turn) (t : Turn) (back : List Turn) → turns ≡ front ++ t ∷ back → P (pre ++ front) t back
 at_turn P pre [] h [] t back e = absurd (cc e)
 at_turn P pre [] h (f ∷ front) t back e = absurd (cc e)
 at_turn P pre (x ∷ xs) h [] t back e =

@@ -39,12 +39,12 @@ use Rattle.core_model.proofs.LastUses.{is_unused, is_bare}
 use Rattle.vk_types.specs.declared.op.VkOp.TheVariants as op
 
 -- numbers one after another that are alike
-map_numbers : (f g : ℕ → ℕ) (first n : ℕ) → ((i : ℕ) → first ≤ i → i < first + n → f i ≡ g i) → map f (numbers_from first n) ≡ map g (numbers_from first n)
+pub map_numbers : (f g : ℕ → ℕ) (first n : ℕ) → ((i : ℕ) → first ≤ i → i < first + n → f i ≡ g i) → map f (numbers_from first n) ≡ map g (numbers_from first n)
 map_numbers f g first zero h = refl
 map_numbers f g first (suc n) h = λ i. h first (omega arith) (omega arith) i ∷ map_numbers f g (suc first) n (λ j l u. h j (omega (arith, l)) (omega (arith, u))) i
 
 -- the state with a host read more
-abbrev reads_range : ℕ → Range → Core → Core
+abbrev pub reads_range : ℕ → Range → Core → Core
 reads_range call r core = record core {
   open_chunk = record core.open_chunk { reads = core.open_chunk.reads ++ new_entry core (Host_read r) ∷ [] };
   listing = core.listing ++ op.HostRead r call ∷ [];
@@ -226,7 +226,7 @@ module _ (meaning : Meaning) (reading : Reading) (script : Script) (lawful : IsL
   unused = is_unused meaning reading script lawful old k source.block block.0 used asks.1 block.1 (lawful.uses old.past call (Bytes source) used may_pend turns here) fin
 
   -- the copies are what the in-order state has
-  right_bytes : copied_bytes old (range_on old.blocks source) ≡ map (λ i. before.bytes source.block i) (numbers_from source.from (source.to - source.from))
+  pub right_bytes : copied_bytes old (range_on old.blocks source) ≡ map (λ i. before.bytes source.block i) (numbers_from source.from (source.to - source.from))
   right_bytes =
       map_numbers (λ i. old.copies (block_of old.blocks source.block) i) (λ i. before.bytes source.block i) source.from (source.to - source.from)
       (λ i l u.

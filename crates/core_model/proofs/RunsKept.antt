@@ -35,7 +35,7 @@ use Rattle.core_model.specs.Runs.{IsRun, pending_in}
 
 module _ (meaning : Meaning) (reading : Reading) (script : Script) (lawful : IsLawful meaning script) where
   -- the invariant, what holds of queries, and where the blocks of classes are
-  abbrev Holds : Core → Type 0
+  abbrev pub Holds : Core → Type 0
   Holds core = Kept meaning reading script core × QueriesRight meaning script core × ClassesRight script core
 
   turn_kept : (old : Core) (t : Turn) (turns : List Turn) (new : Core) → old.future ≡ t ∷ turns → is_due script old.open_chunk.turns old.future ≡ false → TakesTurn reading script t turns old new

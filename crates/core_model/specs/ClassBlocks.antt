@@ -25,19 +25,19 @@ stand (Paged k since bound) = Apart
 stand Dropped = Apart
 
 -- the block is one of the class
-abbrev pub IsOfClass : ℕ → ℕ → Type 0
-IsOfClass class b = (class * 64 ≤ b) × (b < class * 64 + 64)
+abbrev pub IsInClass : ℕ → ℕ → Type 0
+IsInClass class b = (class * 64 ≤ b) × (b < class * 64 + 64)
 
 -- a buffer of this class may have the block
 abbrev pub IsFor : Option ℕ → ℕ → Type 0
 IsFor None b = 512 ≤ b
-IsFor (Some class) b = (class < 8) × IsOfClass class b
+IsFor (Some class) b = (class < 8) × IsInClass class b
 
 -- a block that was made is at home, on its way, a buffer's or retired. What is at home stands on the board, what a buffer holds
 -- is the buffer's block and of its class, and what the open chunk retired is among its marks, which are no more than its turns give
 pub record ClassRight (script : Script) (board : Board) (at : ℕ → Stand) (blocks : ℕ → Option ℕ) (number : ℕ) (marked : List ℕ) (turns : List Turn) : Type 0 where
   pub made : (class i : ℕ) → class < 8 → i < board.made class → i < 64 → at (class * 64 + i) ≡ Apart → ⊥
-  pub home : (class b : ℕ) → class < 8 → IsOfClass class b → at b ≡ At_home → (place : ℕ) × (slice_get (board.places class) place ≡ Some (Some b))
+  pub home : (class b : ℕ) → class < 8 → IsInClass class b → at b ≡ At_home → (place : ℕ) × (slice_get (board.places class) place ≡ Some (Some b))
   pub held : (b r : ℕ) → at b ≡ Held r → (blocks r ≡ Some b) × IsFor (script.class r) b
   pub gone : (b k : ℕ) → at b ≡ Gone k → k ≤ number
   pub retired : (b : ℕ) → at b ≡ Gone number → has_class b ≡ true → is_among b marked ≡ true
@@ -52,4 +52,4 @@ abbrev pub HasBlockFor : Core → ℕ → Type 0
 HasBlockFor core class =
     (core.board.made class < 64)
     ⊎ (((place : ℕ) × (b : ℕ) × (slice_get (core.board.places class) place ≡ Some (Some b)))
-    ⊎ ((b : ℕ) × IsOfClass class b × ((stand (core.owner b) ≡ On_way) ⊎ ((k : ℕ) × (stand (core.owner b) ≡ Gone k) × (k < open_number core)))))
+    ⊎ ((b : ℕ) × IsInClass class b × ((stand (core.owner b) ≡ On_way) ⊎ ((k : ℕ) × (stand (core.owner b) ≡ Gone k) × (k < open_number core)))))

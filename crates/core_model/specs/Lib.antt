@@ -26,3 +26,8 @@ pub mod Kept
 pub mod Queries
 pub mod WorkedQuery
 pub mod ClassBlocks
+pub mod HostReads
+pub mod Filling
+pub mod Batches
+pub mod Messages
+pub mod Marked

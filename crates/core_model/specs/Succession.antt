@@ -1,5 +1,5 @@
 -- When a message may come after those before it: chunks, batches, submissions, completions and posts.
-use Rattle.std.specs.Prelude.{◌≡◌, ℕ, zero, suc, ◌+◌, ◌-◌, ◌*◌, ◌<◌, ◌≤◌, Bool, true, false, cond, ◌&&◌, nat_lt, nat_le, List, [], ◌∷◌, ◌++◌, length, map, Option, Some, None, ◌⊎◌}
+use Rattle.std.specs.Prelude.{◌≡◌, ℕ, zero, suc, ◌+◌, ◌-◌, ◌*◌, ◌<◌, ◌≤◌, Bool, true, false, cond, ◌&&◌, ◌==◌, nat_lt, nat_le, List, [], ◌∷◌, ◌++◌, length, map, Option, Some, None, ◌⊎◌}
 use Rattle.std.specs.List.{list_any, AllByRecursion}
 use Rattle.dx_types.specs.declared.range.Range.{Range}
 use Rattle.dx_types.specs.declared.range.Span.{Span}
@@ -17,7 +17,7 @@ use Rattle.vk_types.specs.Lists.{Pairwise, numbers_from}
 use Rattle.vk_types.specs.Memory.{meets}
 use Rattle.vk_types.specs.Effects.{Meaning}
 use Rattle.core_model.specs.Script.{Play, Create, Discard, No_overwrite, Stage, Command, Destroy, Create_shader, Mark_query, Set_state, Turn, Refused, Passed, Flushed, Asked, Item, Script, InOrder, at_start, turn_in_order, updated}
-use Rattle.core_model.specs.Chunking.{ItemNo, items, chunk_turns, upto, joined, after_chunk}
+use Rattle.core_model.specs.Chunking.{ItemNo, items, chunks, chunk_turns, upto, joined, after_chunk}
 use Rattle.core_model.specs.Renaming.{BlockMap}
 use Rattle.core_model.specs.CoreState.{has_class, class_length, somes}
 use Rattle.core_model.specs.Owners.{is_block}
@@ -44,8 +44,9 @@ post_head m = record { number = m.number; upto = m.upto; placed = m.placed.items
 abbrev pub item_of : Placed → ItemNo
 item_of p = record { call = p.call; item = p.item }
 
--- the message is number n, and has one place for each item of chunk n
+-- the message is number n, the log has a chunk n, and the message has one place for each item of it
 pub record IsOfChunk (script : Script) (n : ℕ) (m : Head) : Type 0 where
+  pub there : n ≤ length (chunks script)
   pub number : m.number ≡ n
   pub upto : m.upto ≡ upto script n
   pub items : map item_of m.placed ≡ items (chunk_turns script n)
@@ -94,22 +95,28 @@ GivesBlocks script (Item call item ends play bound ∷ ts) ps blocks =
 abbrev pub turns_upto : Script → ℕ → List Turn
 turns_upto script n = joined (map (chunk_turns script) (numbers_from 1 n))
 
--- some item among these took the block; one marked it
+-- some item among these took the block
 abbrev pub takes : ℕ → List Placed → Bool
 takes b ps = list_any (λ p. is_block p.block b) ps
-
-abbrev pub marked : ℕ → List Placed → Bool
-marked b ps = list_any (λ p. is_block p.mark b) ps
 
 -- the places of several messages
 abbrev pub all_places : List (List Placed) → List Placed
 all_places [] = []
 all_places (ps ∷ pss) = ps ++ all_places pss
 
--- a block that an item takes was never placed, or an earlier message marked it and no item took it since
+-- an item staged bytes in the block
+abbrev pub is_staged_in : ℕ → Option Range → Bool
+is_staged_in b None = false
+is_staged_in b (Some r) = r.block == b
+
+abbrev pub stages_in : ℕ → List Placed → Bool
+stages_in b ps = list_any (λ p. is_staged_in b p.staged) ps
+
+-- a block that an item takes was never placed, by an item that took it or staged bytes in it, or an earlier message marked it
+-- and no item took it since
 abbrev pub MayTake : List (List Placed) → List Placed → ℕ → Type 0
 MayTake earlier here b =
-    (takes b (all_places earlier ++ here) ≡ false)
+    ((takes b (all_places earlier ++ here) ≡ false) × (stages_in b (all_places earlier ++ here) ≡ false))
     ⊎ ((front : List Placed) × (q : Placed) × (back : List Placed) × (all_places earlier ≡ front ++ q ∷ back)
     × (q.mark ≡ Some b) × (takes b (back ++ here) ≡ false))
 

@@ -2,7 +2,7 @@
 //! in every run. The functions here are empty: each is named for a law, which its clauses state.
 #![tactic(auto)]
 
-ghost use Rattle.std.specs.Prelude.{◌≡◌, ℕ, suc, ◌+◌, ◌<◌, ◌≤◌, Bool, true, false, Option, Some, List, [], ◌∷◌, ◌++◌, length};
+ghost use Rattle.std.specs.Prelude.{◌≡◌, ℕ, suc, ◌+◌, ◌<◌, ◌≤◌, Bool, true, false, Option, Some, List, [], ◌∷◌, ◌++◌, length, map, slice_get};
 ghost use Rattle.std.specs.List.{AllByRecursion};
 ghost use Rattle.dx_types.specs.declared.range.Range.{Range};
 ghost use Rattle.vk_types.specs.Covered.{Covered};
@@ -16,16 +16,16 @@ ghost use Rattle.vk_types.specs.Lists.{Pairwise, IsReordering, numbers_from};
 ghost use Rattle.vk_types.specs.Memory.{zeros};
 ghost use Rattle.vk_types.specs.RunListing.{IsRunListing, SameOrder};
 ghost use Rattle.core_model.specs.Script.{Play, Ask, Bytes, Count, Constant, Turn, Asked, Item, is_plain, Script, at_start, in_order};
-ghost use Rattle.core_model.specs.Chunking.{is_due, cut, chunks};
-ghost use Rattle.core_model.specs.CoreState.{Message, Page, Pool, Core, start, flat, rests, segments, on_device, listed, done, Said, Still_said, End_said};
-ghost use Rattle.core_model.specs.Adding.{with_turn, with_reply};
+ghost use Rattle.core_model.specs.Chunking.{is_due, cut, chunks, after_chunk};
+ghost use Rattle.core_model.specs.CoreState.{Message, Page, Pool, Core, start, flat, rests, segments, on_device, listed, done, Said, Still_said, End_said, Segment, marks, of_messages, of_running, finished_count};
+ghost use Rattle.core_model.specs.Adding.{with_turn, with_reply, has_block};
 ghost use Rattle.core_model.specs.Readings.{Reading, Any_choices, First_choices, may_hand_over};
-ghost use Rattle.core_model.specs.OtherParts.{all_marks, sum_from};
+ghost use Rattle.core_model.specs.OtherParts.{all_marks, sum_from, is_among, used_in};
 ghost use Rattle.core_model.specs.AppActs.{TakesTurn, is_finished, used_or_zero, handed_over};
-ghost use Rattle.core_model.specs.CoreStep.{Event, is_of_app, Step, CoreStep, Chain};
+ghost use Rattle.core_model.specs.CoreStep.{Event, Finish, is_of_app, Step, CoreStep, Chain};
 ghost use Rattle.core_model.specs.Free.{FreeSteps, FreeRun};
-ghost use Rattle.core_model.specs.Succession.{values_after};
-ghost use Rattle.core_model.specs.Stands.{may_touch, FreeIsIdle};
+ghost use Rattle.core_model.specs.Succession.{values_after, Log, ChunkView, only_class, batch_head, completion_head, post_head, FollowsChunk, FollowsBatch, FollowsSubmission, FollowsCompletion, FollowsPost};
+ghost use Rattle.core_model.specs.Stands.{may_touch, FreeIsIdle, Stands};
 ghost use Rattle.core_model.specs.TakingPosts.{TakesPosts, with_fence};
 ghost use Rattle.core_model.specs.Runs.{IsRun, pending};
 ghost use Rattle.core_model.specs.Playing.{HasBlock};
@@ -37,6 +37,16 @@ ghost use Rattle.core_model.specs.Invariant.{turns_of, handed, commands_of, IsSi
 ghost use Rattle.core_model.specs.Kept.{Kept};
 ghost use Rattle.core_model.specs.Queries.{count_in_order, commands_in, command_numbers, marks_from, is_end, newest_of, AreInTurn, QueriesRight};
 ghost use Rattle.core_model.specs.ClassBlocks.{ClassesRight, HasBlockFor};
+ghost use Rattle.core_model.specs.HostReads.{RepliesAreReads, ReadsAreReplies};
+ghost use Rattle.vk_types.specs.declared.message.Batch.{Batch};
+ghost use Rattle.vk_types.specs.declared.message.Submission.{Submission};
+ghost use Rattle.vk_types.specs.declared.message.Completion.{Completion};
+ghost use Rattle.vk_types.specs.declared.message.Post.{Post};
+ghost use Rattle.core_model.specs.Batching.{made, batch_ops};
+ghost use Rattle.core_model.specs.Batches.{batches};
+ghost use Rattle.core_model.specs.Filling.{AreFilled};
+ghost use Rattle.core_model.specs.Marked.{IsOff, all_messages, IsMarkedBy, IsReturning};
+ghost use Rattle.core_model.specs.Messages.{heads, IsChunk, IsBatch, IsCompletion, IsPost};
 ghost use Rattle.core_model.specs.WorkedLogs.{no_shaders, update_copy_map, PlaysUpdateCopyMap, PlaysFiveBuffers};
 ghost use Rattle.core_model.specs.WorkedQuery.{count_groups, one_query, PlaysOneQuery};
 
@@ -292,4 +302,91 @@ pub fn states_are_lawful()
     ensures memory { (meaning : Meaning) (reading : Reading) (script : Script) (core : Core)
         → Good meaning reading script core → rests core.accepted ≡ []
         → core.memory ≡ run_entries meaning (flat (on_device core)) zeros }
+{}
+
+/// The law of host reads, of a lawful script whose calls ask for no count of a query, in every state that steps reach from the
+/// start and at the end of each run of the core that is stepped. A reply with bytes has those that its call's range has when the
+/// calls before it are taken one after another. Where the call has a last use, a host read of that range stands in the listing for
+/// it, and each order that the listing allows gives there exactly these bytes. And each host read of the listing is that of a call
+/// with a last use that was answered so. A call is asked at one place of a script, so the place that a clause is told of is the
+/// one that the reply is of.
+pub fn host_reads_are_answers()
+    ensures replies { (meaning : Meaning) (reading : Reading) (script : Script) → IsLawful meaning script
+        → (events : List Event) (core : Core) → Chain meaning reading script (start script) events core → RepliesAreReads meaning script core }
+    ensures reads { (meaning : Meaning) (reading : Reading) (script : Script) → IsLawful meaning script
+        → (events : List Event) (core : Core) → Chain meaning reading script (start script) events core → ReadsAreReplies meaning script core }
+    ensures run_replies { (meaning : Meaning) (script : Script) → IsLawful meaning script
+        → (schedule : List ℕ) (core : Core) → IsRun meaning script schedule core → RepliesAreReads meaning script core }
+    ensures run_reads { (meaning : Meaning) (script : Script) → IsLawful meaning script
+        → (schedule : List ℕ) (core : Core) → IsRun meaning script schedule core → ReadsAreReplies meaning script core }
+{}
+
+/// The law of succession, of a lawful script whose calls ask for no count of a query, in every state that steps reach from the
+/// start, in each reading and by any choices. A message that stands for a chunk which was handed over follows the messages of the
+/// chunks before it, as chunk, batch, submission, completion and post: whichever ready commands were run, and however far each
+/// chunk came. Of completions and posts this supposes the values of queries, and that no buffer is created where it lives, without
+/// which a copy may be of a block that its buffer lost; the first small log shows that this can be. The values are the log's where
+/// the device's counts add up to the invocations of the turns. What the host writes for a chunk are the
+/// parts that its items have in the log, in zeros; the batches of the listing are those that are made of the chunks, and no other;
+/// and after each chunk the blocks that its items gave hold, as the listing leaves them, what the log's chunks so far leave in order.
+pub fn messages_succeed()
+    ensures chunks { (log : Log) (reading : Reading) → IsLawful log.meaning log.script
+        → (events : List Event) (core : Core) → Chain log.meaning reading log.script (start log.script) events core
+        → (front : List Segment) (s : Segment) (back : List Segment) → handed core ≡ front ++ s ∷ back
+        → (before : List ChunkView) (m : ChunkView) → map (λ h. h.head) before ≡ heads front → IsChunk log.script front s m → FollowsChunk log before m }
+    ensures batches { (log : Log) (reading : Reading) → IsLawful log.meaning log.script
+        → (events : List Event) (core : Core) → Chain log.meaning reading log.script (start log.script) events core
+        → (front : List Segment) (s : Segment) (back : List Segment) → handed core ≡ front ++ s ∷ back
+        → (before : List Batch) (m : Batch) → map batch_head before ≡ heads front → IsBatch log core.listing front s m → FollowsBatch log before m }
+    ensures submissions { (log : Log) (reading : Reading) → IsLawful log.meaning log.script
+        → (events : List Event) (core : Core) → Chain log.meaning reading log.script (start log.script) events core
+        → (front : List Segment) (s : Segment) (back : List Segment) → handed core ≡ front ++ s ∷ back
+        → (before : List Submission) (m : Submission) → map (λ s. batch_head s.batch) before ≡ heads front
+        → IsBatch log core.listing front s m.batch → FollowsSubmission log before m }
+    ensures completions { (log : Log) (reading : Reading) → IsLawful log.meaning log.script
+        → (events : List Event) (core : Core) → Chain log.meaning reading log.script (start log.script) events core
+        → (earlier : List Message) (m : Message) (others : List Message) → core.posts ++ core.completions ≡ earlier ++ m ∷ others
+        → (before : List Completion) (c : Completion) → map completion_head before ≡ heads (core.taken ++ of_messages earlier)
+        → IsCompletion core.listing (core.taken ++ of_messages earlier) m c → FollowsCompletion log before c }
+    ensures posts { (log : Log) (reading : Reading) → IsLawful log.meaning log.script
+        → (events : List Event) (core : Core) → Chain log.meaning reading log.script (start log.script) events core
+        → (earlier : List Message) (m : Message) (others : List Message) → core.posts ++ core.completions ≡ earlier ++ m ∷ others
+        → (before : List Post) (p : Post) → map post_head before ≡ heads (core.taken ++ of_messages earlier)
+        → IsPost core.listing (core.taken ++ of_messages earlier) m p → FollowsPost log before p }
+    ensures filled { (log : Log) (reading : Reading) → IsLawful log.meaning log.script
+        → (events : List Event) (core : Core) → Chain log.meaning reading log.script (start log.script) events core
+        → (front : List Segment) (s : Segment) (back : List Segment) → handed core ≡ front ++ s ∷ back
+        → AreFilled (made log.script (map (λ s. s.placed) (front ++ s ∷ []))).writes s.writes }
+    ensures listed { (log : Log) (reading : Reading) → IsLawful log.meaning log.script
+        → (events : List Event) (core : Core) → Chain log.meaning reading log.script (start log.script) events core
+        → (front : List Segment) (s : Segment) (back : List Segment) → handed core ≡ front ++ s ∷ back
+        → slice_get (batches core.listing) (length front) ≡ Some (batch_ops (made log.script (map (λ s. s.placed) (front ++ s ∷ []))) (suc (length front))) }
+    ensures count { (log : Log) (reading : Reading) → IsLawful log.meaning log.script
+        → (events : List Event) (core : Core) → Chain log.meaning reading log.script (start log.script) events core
+        → length (batches core.listing) ≡ length (handed core) }
+    ensures stands { (log : Log) (reading : Reading) → IsLawful log.meaning log.script
+        → (events : List Event) (core : Core) → Chain log.meaning reading log.script (start log.script) events core
+        → (front : List Segment) (s : Segment) (back : List Segment) → handed core ≡ front ++ s ∷ back
+        → Stands log.script (run_entries log.meaning (flat (front ++ s ∷ [])) zeros) (made log.script (map (λ s. s.placed) (front ++ s ∷ []))).blocks
+        (after_chunk log.meaning log.script (suc (length front))) }
+{}
+
+/// The law of marks. A block that a chunk gave up, until a buffer takes it again, is named by a mark of that chunk's message, and no
+/// item took it since, so a recorder that compares what it takes with its own marks drops no block. A Finish sends home exactly the
+/// blocks of a class that its message marks. And a message has the copy of each staging block that its chunk names, where no later
+/// chunk that the device has uses the block, so a recorder that asks for them drops no message.
+pub fn marked_blocks_come_home()
+    ensures marked { (meaning : Meaning) (reading : Reading) (script : Script) → IsLawful meaning script
+        → (events : List Event) (core : Core) → Chain meaning reading script (start script) events core
+        → (b n : ℕ) → IsOff n (core.owner b) → IsMarkedBy (all_messages core) b n }
+    ensures homes { (meaning : Meaning) (reading : Reading) (script : Script) → IsLawful meaning script
+        → (events : List Event) (old : Core) → Chain meaning reading script (start script) events old
+        → (new : Core) → Step meaning reading script old Finish new → (m : Message) (ms : List Message) → old.completions ≡ m ∷ ms → (b : ℕ)
+        → (IsReturning (suc (finished_count old)) (new.owner b) → is_among b (only_class (marks m.segment)) ≡ true)
+        × (is_among b (only_class (marks m.segment)) ≡ true → IsReturning (suc (finished_count old)) (new.owner b)) }
+    ensures copies { (meaning : Meaning) (reading : Reading) (script : Script) → IsLawful meaning script
+        → (events : List Event) (core : Core) → Chain meaning reading script (start script) events core
+        → (earlier : List Message) (m : Message) (others : List Message) → core.posts ++ core.completions ≡ earlier ++ m ∷ others
+        → (b : ℕ) → has_block b m.segment.staging ≡ true → used_in (of_messages others ++ of_running core.accepted) b ≡ false
+        → (bytes : ℕ → ℕ) × (m.snaps b ≡ Some bytes) }
 {}
