@@ -154,7 +154,7 @@ retire_sort chunk (Retired k since bound) = ((λ n h. inl h), (λ h. h), (λ h. 
 retire_sort chunk (Paged k since bound) = ((λ n h. inl h), (λ h. h), (λ h. h))
 retire_sort chunk Dropped = ((λ n h. inl h), (λ h. h), (λ h. h))
 
-block_is : (o : Option ℕ) (b : ℕ) → is_block o b ≡ true → o ≡ Some b
+pub block_is : (o : Option ℕ) (b : ℕ) → is_block o b ≡ true → o ≡ Some b
 block_is None b h = absurd (cc h)
 block_is (Some c) b h = ap Some (sym (eqb-true b c h))
 

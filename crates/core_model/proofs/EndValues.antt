@@ -14,6 +14,7 @@ use Rattle.core_model.specs.Succession.{turns_upto, end_of, end_values, values_a
 use Rattle.core_model.specs.Invariant.{turns_of}
 use Rattle.core_model.specs.Kept.{Kept}
 use Rattle.core_model.specs.Queries.{count_in_order, commands_in, commands_by, turn_marks, marks_from, AreMarked, ValuesRight, QueriesRight}
+use Rattle.core_model.proofs.ScriptChunks.{upto_there, finished_is}
 use Rattle.core_model.proofs.Worlds.{of_messages-append}
 use Rattle.core_model.proofs.Segments.{messages_length, turns_of-append}
 use Rattle.core_model.proofs.Turning.{segments_handed, in_order-append}
@@ -107,46 +108,6 @@ module _ (meaning : Meaning) (script : Script) (low high : ℕ) where
       ∙ ap (λ l. values_between f low high earlier here ++ l) (rest ∙ ap (λ k. values_between f low high (earlier ++ here) (marks_from k ts)) number)
       ∙ sym (values_append f low high here earlier (marks_from (n + commands_by t) ts))
 
--- Chunks of the script ------------------------------------------------------------------------------------------------------------
-
-got : {A : Type 0} (xs : List A) (y : A) (ys : List A) → slice_get (xs ++ y ∷ ys) (length xs) ≡ Some y
-got [] y ys = refl
-got (x ∷ xs) y ys = got xs y ys
-
--- chunk k's turns, where the script is cut into these
-pub chunk_is : (script : Script) (xs : List (List Turn)) (y : List Turn) (ys : List (List Turn)) → chunks script ≡ xs ++ y ∷ ys → chunk_turns script (suc (length xs)) ≡ y
-chunk_is script xs y ys e = by (slice_get (chunks script) (length xs)) (ap (λ l. slice_get l (length xs)) e ∙ got xs y ys)
-  where
-    by : (o : Option (List Turn)) → o ≡ Some y → turns_or_none o ≡ y
-    by o h = ap turns_or_none h
-
-pub chunks_are : (script : Script) (xs front ys : List (List Turn)) → chunks script ≡ front ++ (xs ++ ys) → map (chunk_turns script) (numbers_from (suc (length front)) (length xs)) ≡ xs
-chunks_are script [] front ys e = refl
-chunks_are script (x ∷ xs) front ys e =
-    let long : length (front ++ x ∷ []) ≡ suc (length front) = (let l = length-append front (x ∷ []) in omega (arith, l)) in
-    ap (λ y. y ∷ map (chunk_turns script) (numbers_from (suc (suc (length front))) (length xs))) (chunk_is script front x (xs ++ ys) e)
-    ∙ ap (λ l. x ∷ l) (ap (λ n. map (chunk_turns script) (numbers_from (suc n) (length xs))) (sym long) ∙ chunks_are script xs (front ++ x ∷ []) ys (e ∙ sym (append_assoc front (x ∷ []) (xs ++ ys))))
-
-turns_length : (ss : List Segment) → length (turns_of ss) ≡ length ss
-turns_length [] = refl
-turns_length (s ∷ ss) = ap suc (turns_length ss)
-
--- the last call that chunks finish, by the script
-finished_from : (script : Script) (front : List Segment) (s : Segment) (ss : List Segment) (ys : List (List Turn)) → chunks script ≡ turns_of front ++ (turns_of (s ∷ ss) ++ ys)
-    → last_finished (s ∷ ss) ≡ upto script (length front + length (s ∷ ss))
-finished_from script front s [] ys e =
-    let long : suc (length (turns_of front)) ≡ length front + length (s ∷ []) = (let l = turns_length front in omega (arith, l)) in
-    sym (ap last_call (ap (chunk_turns script) (sym long) ∙ chunk_is script (turns_of front) s.turns ys e))
-finished_from script front s (u ∷ ss) ys e =
-    let long : length (front ++ s ∷ []) + length (u ∷ ss) ≡ length front + length (s ∷ u ∷ ss) = (let l = length-append front (s ∷ []) in omega (arith, l)) in
-    finished_from script (front ++ s ∷ []) u ss ys
-    (e ∙ sym (append_assoc (turns_of front) (s.turns ∷ []) (turns_of (u ∷ ss) ++ ys)) ∙ ap (λ l. l ++ (turns_of (u ∷ ss) ++ ys)) (sym (turns_of-append front (s ∷ []))))
-    ∙ ap (upto script) long
-
-pub finished_is : (script : Script) (ss : List Segment) (ys : List (List Turn)) → chunks script ≡ turns_of ss ++ ys → last_finished ss ≡ upto script (length ss)
-finished_is script [] ys e = refl
-finished_is script (s ∷ ss) ys e = finished_from script [] s ss ys e ∙ ap (upto script) (let z : 0 + length (s ∷ ss) ≡ length (s ∷ ss) = omega arith in z)
-
 -- Messages --------------------------------------------------------------------------------------------------------------------------
 
 -- of a chunk behind others: its values by the counts that its commands run in order
@@ -161,8 +122,7 @@ values_are meaning script earlier s more back cuts here marked =
     let low : last_finished earlier ≡ upto script (length earlier) =
     finished_is script earlier (s.turns ∷ more) (cuts ∙ ap (λ l. l ++ more) (turns_of-append earlier (s ∷ [])) ∙ append_assoc (turns_of earlier) (s.turns ∷ []) more) in
     let high : last_call s.turns ≡ upto script (suc (length earlier)) = sym (finished_last earlier s) ∙ finished_is script all more cuts ∙ ap (upto script) count in
-    let turns : turns_upto script (suc (length earlier)) ≡ ts =
-    ap (λ n. joined (map (chunk_turns script) (numbers_from 1 n))) (sym count ∙ sym (turns_length all)) ∙ ap joined (chunks_are script (turns_of all) [] more cuts) in
+    let turns : turns_upto script (suc (length earlier)) ≡ ts = upto_there script earlier s more cuts in
     ap (values_between f (last_finished earlier) (last_call s.turns) []) (marked_marks 0 all marked)
     ∙ sym (ends_from meaning script (last_finished earlier) (last_call s.turns) ts [] back [] here (reached_start meaning script))
     ∙ ap (λ n. end_values meaning script n (last_call s.turns) ts at_start) low

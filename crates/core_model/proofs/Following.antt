@@ -1,5 +1,5 @@
 -- Messages that stand for chunks follow those before them: their numbers, items, places, pages and blocks.
-use Rattle.std.proofs.Common.{◌≡◌, ℕ, zero, suc, ◌+◌, ◌-◌, ◌*◌, ◌<◌, ◌≤◌, false, cond, nat_lt, List, [], ◌∷◌, ◌++◌, length, map, take, refl, sym, ap, ◌∙◌, subst, inl, inr, Option, Some, None, slice_get, arith, length-append}
+use Rattle.std.proofs.Common.{◌≡◌, ℕ, zero, suc, ◌+◌, ◌-◌, ◌*◌, ◌<◌, ◌≤◌, false, cond, nat_lt, List, [], ◌∷◌, ◌++◌, length, map, take, refl, sym, ap, ◌∙◌, subst, inl, inr, Option, Some, None, slice_get, arith, append_assoc, length-append}
 use Rattle.std.specs.List.{AllByRecursion}
 use Rattle.std.proofs.lemmas.Bool.{cases_Bool, ltb-true, lt-ltb}
 use Rattle.buffer_blocks.specs.declared.block.Block.{Block}
@@ -13,7 +13,9 @@ use Rattle.core_model.specs.Batching.{Made, nothing_made, made, batch_ops}
 use Rattle.core_model.specs.Invariant.{turns_of}
 use Rattle.core_model.specs.Messages.{head_behind, heads_behind, heads, page_of, block_length, takers, AreAsLong, AreTaken}
 use Rattle.core_model.specs.Succession.{Head, IsOfClass, IsOfChunk, FollowsHead, GivesBlocks, TakesLawfully, StagesApart, HasPages, HasBlocks, Log, all_places, class_of, length_by, taken_lengths, staged_ranges, turns_upto}
-use Rattle.core_model.proofs.Placements.{GivesTo, gives_blocks, gives_items, GivesLine, line_parts, line_append, line_gives, places_of, places_last, turns_there, upto_there}
+use Rattle.core_model.proofs.Segments.{turns_of-append, turns_length}
+use Rattle.core_model.proofs.ScriptChunks.{turns_there, upto_there}
+use Rattle.core_model.proofs.Placements.{GivesTo, gives_blocks, gives_items, GivesLine, line_parts, line_append, line_gives, places_of, places_last}
 use Rattle.core_model.proofs.Succeeding.{no_blocks}
 use Rattle.core_model.proofs.MadeLines.{chunk_made, line_made, AreMadeOf, are_there, IsMadeOf, made_there}
 use Rattle.core_model.proofs.ListedBatches.{line_batches}
@@ -22,17 +24,13 @@ use Rattle.core_model.proofs.PlacedLines.{ChunkPlaced, LinePlaced, line_there}
 
 -- Heads --------------------------------------------------------------------------------------------------------------------------------
 
-heads_placed : (front ss : List Segment) → map (λ h. h.placed) (heads_behind front ss) ≡ places_of ss
+pub heads_placed : (front ss : List Segment) → map (λ h. h.placed) (heads_behind front ss) ≡ places_of ss
 heads_placed front [] = refl
 heads_placed front (s ∷ ss) = ap (λ l. s.placed ∷ l) (heads_placed (front ++ s ∷ []) ss)
 
-heads_length : (front ss : List Segment) → length (heads_behind front ss) ≡ length ss
+pub heads_length : (front ss : List Segment) → length (heads_behind front ss) ≡ length ss
 heads_length front [] = refl
 heads_length front (s ∷ ss) = ap suc (heads_length (front ++ s ∷ []) ss)
-
-length_turns : (ss : List Segment) → length (turns_of ss) ≡ length ss
-length_turns [] = refl
-length_turns (x ∷ ss) = ap suc (length_turns ss)
 
 -- what is known of the chunks that were handed over
 pub record Line (script : Script) (ss : List Segment) : Type 0 where
@@ -45,6 +43,11 @@ pub record Line (script : Script) (ss : List Segment) : Type 0 where
 
 module _ (script : Script) (front : List Segment) (s : Segment) (back : List Segment) (l : Line script (front ++ s ∷ back)) where
   -- the chunk's turns are the log's
+  cuts : chunks script ≡ turns_of (front ++ s ∷ []) ++ (turns_of back ++ l.rest)
+  cuts =
+      l.chunks ∙ ap (λ ts. ts ++ l.rest) (ap turns_of (sym (append_assoc front (s ∷ []) back)) ∙ turns_of-append (front ++ s ∷ []) back)
+      ∙ append_assoc (turns_of (front ++ s ∷ [])) (turns_of back) l.rest
+
   pub turns_here : chunk_turns script (suc (length front)) ≡ s.turns
   turns_here = turns_there script front s back l.rest l.chunks
 
@@ -70,7 +73,7 @@ module _ (script : Script) (front : List Segment) (s : Segment) (back : List Seg
   there =
       let a : length (chunks script) ≡ length (turns_of (front ++ s ∷ back) ++ l.rest) = ap length l.chunks in
       let b = length-append (turns_of (front ++ s ∷ back)) l.rest in
-      let c = length_turns (front ++ s ∷ back) in
+      let c = turns_length (front ++ s ∷ back) in
       let d = length-append front (s ∷ back) in
       omega (arith, a, b, c, d)
 
@@ -92,7 +95,7 @@ module _ (script : Script) (front : List Segment) (s : Segment) (back : List Seg
             subst (λ z. GivesBlocks z (turns_upto z (suc (length before))) (all_places (map (λ h. h.placed) before) ++ s.placed) no_blocks) (sym same)
             (subst (λ n. GivesBlocks script (turns_upto script n) (all_places (map (λ h. h.placed) before) ++ s.placed) no_blocks) number
             (subst (λ l. GivesBlocks script (turns_upto script (suc (length front))) (all_places l ++ s.placed) no_blocks) (sym places)
-            (subst (λ t. GivesBlocks script t (all_places (places_of front) ++ s.placed) no_blocks) (sym (upto_there script front s back l.rest l.chunks))
+            (subst (λ t. GivesBlocks script t (all_places (places_of front) ++ s.placed) no_blocks) (sym (upto_there script front s (turns_of back ++ l.rest) cuts))
             (subst (λ l. GivesBlocks script (joined (turns_of (front ++ s ∷ []))) l no_blocks) (places_last front s)
             (gives_blocks script (joined (turns_of (front ++ s ∷ []))) (all_places (places_of (front ++ s ∷ []))) no_blocks gives_parts.2.0 gives_all)))));
         takes_lawfully = subst (λ l. TakesLawfully l s.placed) (sym places) placed_here.right.takes;

@@ -13,7 +13,7 @@ use Rattle.core_model.specs.RunReads.{ReadsStaging}
 use Rattle.core_model.specs.Listed.{ListState, after_op, after_ops, GoesOn, plain, plain_entries, is_of_device, after_counts, contents_after}
 use Rattle.vk_types.specs.declared.op.VkOp.TheVariants as op
 
-all_to_map : {A B : Type 0} (f : A → B) (P : B → Type 0) (xs : List A) → AllByRecursion (λ x. P (f x)) xs → AllByRecursion P (map f xs)
+pub all_to_map : {A B : Type 0} (f : A → B) (P : B → Type 0) (xs : List A) → AllByRecursion (λ x. P (f x)) xs → AllByRecursion P (map f xs)
 all_to_map f P [] h = tt
 all_to_map f P (x ∷ xs) h = (h.0, all_to_map f P xs h.1)
 

@@ -19,9 +19,9 @@ use Rattle.core_model.specs.Invariant.{IsLive, handed}
 use Rattle.core_model.specs.Marked.{all_messages}
 use Rattle.core_model.specs.Kept.{Kept}
 use Rattle.core_model.proofs.Giving.{IsVacant, stocked, vacant}
-use Rattle.core_model.proofs.Placements.{places_of, places_of_append}
-use Rattle.core_model.proofs.BlockSorts.{IsBuffers, stages_sort}
-use Rattle.core_model.proofs.MarkedBlocks.{ends_in}
+use Rattle.core_model.proofs.Placements.{places_of, length_places, places_of_append}
+use Rattle.core_model.proofs.BlockSorts.{IsBuffers, stages_sort, block_is}
+use Rattle.core_model.proofs.MarkedBlocks.{or_false, ends_in, same_messages}
 use Rattle.core_model.proofs.ItemResults.{Placement, Nowhere, Bound_alone, Taken_new, Taken_for, Given_up, Staged_there}
 use Rattle.core_model.proofs.ItemCases.{result_of, result_placed}
 use Rattle.core_model.proofs.ListedBatches.{handed_long}
@@ -138,9 +138,6 @@ held_buffers j Dropped h = tt
 held_by : (old new : Core) → all_messages new ≡ all_messages old → finished_count old ≤ finished_count new → ((b j : ℕ) → finished_count new < j → IsGivenUp j (old.owner b) → IsGivenUp j (new.owner b)) → Held old → Held new
 held_by old new e l k h b j m n = k b j n (h b j (subst (λ l. HasMark l b j) e m) (omega (arith, l, n)))
 
-same_messages : (old new : Core) → scene new ≡ scene old → all_messages new ≡ all_messages old
-same_messages old new e = ap (λ v. places_of v.handed ++ v.open_chunk.placed ∷ []) e
-
 -- by a new state that has the same owners and as many finished chunks
 held_same : (old new : Core) → scene new ≡ scene old → (q : Core) → new ≡ q → q.owner ≡ old.owner → finished_count q ≡ finished_count old → Held old → Held new
 held_same old new e q is own same h =
@@ -195,18 +192,6 @@ hand_held old h b j m l =
 -- an item's place
 module _ (old : Core) (h : Held old) (p : Placed) (own : ℕ → Owner) (keeps : (b j : ℕ) → finished_count old < j → IsGivenUp j (old.owner b) → IsGivenUp j (own b))
     (gives : (b : ℕ) → p.mark ≡ Some b → IsGivenUp (open_number old) (own b)) where
-  length_places : (ss : List Segment) → length (places_of ss) ≡ length ss
-  length_places [] = refl
-  length_places (x ∷ ss) = ap suc (length_places ss)
-
-  block_is : (o : Option ℕ) (b : ℕ) → is_block o b ≡ true → o ≡ Some b
-  block_is None b e = absurd (cc e)
-  block_is (Some c) b e = ap Some (sym (eqb-true b c e))
-
-  or_false : (c : Bool) → (c || false) ≡ c
-  or_false true = refl
-  or_false false = refl
-
   pub item_held : (b j : ℕ) → HasMark (places_of (handed old) ++ (old.open_chunk.placed ++ p ∷ []) ∷ []) b j → finished_count old < j → IsGivenUp j (own b)
   item_held b j m l =
       elim (ends_in (places_of (handed old)) (old.open_chunk.placed ++ p ∷ []) m.0 m.1 m.2 m.3) [

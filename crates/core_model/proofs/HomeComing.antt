@@ -15,8 +15,8 @@ use Rattle.core_model.specs.Kept.{Kept}
 use Rattle.core_model.specs.Marked.{IsOff, all_messages, IsMarkedBy, IsReturning}
 use Rattle.core_model.specs.Succession.{only_class}
 use Rattle.core_model.proofs.Binding.{or_left, or_right}
-use Rattle.core_model.proofs.Segments.{messages_length}
-use Rattle.core_model.proofs.Placements.{places_of, places_of_append}
+use Rattle.core_model.proofs.Segments.{messages_length, get_middle}
+use Rattle.core_model.proofs.Placements.{places_of, length_places, places_of_append}
 use Rattle.core_model.proofs.MarkedBlocks.{Sorts}
 use Rattle.core_model.proofs.HeldMarks.{IsGivenUp, marks_in, HasMark, Held}
 
@@ -67,10 +67,6 @@ class_among b (p ∷ ps) h = by p.mark (λ k. class_among b ps k) h
 
 -- The message that is finished -----------------------------------------------------------------------------------------------------
 
-get_there : (xs : List (List Placed)) (x : List Placed) (ys : List (List Placed)) → slice_get (xs ++ x ∷ ys) (length xs) ≡ Some x
-get_there [] x ys = refl
-get_there (y ∷ xs) x ys = get_there xs x ys
-
 module _ (meaning : Meaning) (reading : Reading) (script : Script) (old : Core) (m : Message) (ms : List Message) (e : old.completions ≡ m ∷ ms) where
   abbrev n : ℕ
   n = suc (finished_count old)
@@ -96,19 +92,15 @@ module _ (meaning : Meaning) (reading : Reading) (script : Script) (old : Core) 
       let b = length-append old.taken (of_messages old.posts) in
       let c = messages_length old.posts in
       omega (arith, a, b, c)
-    where
-      length_places : (ss : List Segment) → length (places_of ss) ≡ length ss
-      length_places [] = refl
-      length_places (x ∷ ss) = ap suc (length_places ss)
 
   -- a mark of message n is one of its places
   marked_here : (b : ℕ) → IsMarkedBy (all_messages old) b n → marks_in b m.segment.placed ≡ true
   marked_here b k =
       let long : length k.front ≡ length (places_of before) = let a = number in let c = k.number in omega (arith, a, c) in
-      let one : slice_get (all_messages old) (length k.front) ≡ Some k.here = ap (λ l. slice_get l (length k.front)) k.split ∙ get_there k.front k.here k.back in
+      let one : slice_get (all_messages old) (length k.front) ≡ Some k.here = ap (λ l. slice_get l (length k.front)) k.split ∙ get_middle k.front k.here k.back in
       let two : slice_get (all_messages old) (length k.front) ≡ Some m.segment.placed =
       ap (λ l. slice_get l (length k.front)) line ∙ ap (slice_get (places_of before ++ m.segment.placed ∷ (places_of behind ++ old.open_chunk.placed ∷ []))) long
-      ∙ get_there (places_of before) m.segment.placed (places_of behind ++ old.open_chunk.placed ∷ []) in
+      ∙ get_middle (places_of before) m.segment.placed (places_of behind ++ old.open_chunk.placed ∷ []) in
       let both : Some k.here ≡ Some m.segment.placed = sym one ∙ two in
       let same : k.here ≡ m.segment.placed = cc both in
       ap (marks_in b) (sym same ∙ k.placed) ∙ list_any-append (λ p. is_block p.mark b) k.before (k.place ∷ k.after)

@@ -20,9 +20,10 @@ use Rattle.core_model.specs.HostReads.{whole_listing, bytes_in_order, GivesBytes
 use Rattle.core_model.specs.Lawful.{IsLawful}
 use Rattle.core_model.specs.Invariant.{IsAsked}
 use Rattle.core_model.specs.Kept.{Kept}
+use Rattle.core_model.proofs.Segments.{get_middle}
 use Rattle.core_model.proofs.Steps.{listing_is_covered}
 use Rattle.core_model.proofs.LastUses.{after_last}
-use Rattle.core_model.proofs.ReadOutcomes.{get_middle, read_outcome}
+use Rattle.core_model.proofs.ReadOutcomes.{read_outcome}
 use Rattle.core_model.proofs.HostReading.{is_read, of_device_unread}
 use Rattle.core_model.proofs.ReadAnswers.{Leaves, ReadOf, SaidRight, Answered, read_within, step_answered, start_answered}
 use Rattle.core_model.proofs.Chains.{reached}

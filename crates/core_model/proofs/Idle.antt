@@ -50,12 +50,6 @@ none_of : {A : Type 0} (p : A → Bool) (xs : List A) → AllByRecursion (λ x. 
 none_of p [] h = refl
 none_of p (x ∷ xs) h = ap (λ c. c || list_any p xs) h.0 ∙ none_of p xs h.1
 
--- an act of the host is no command
-host_touches : (a : Act) (b : ℕ) → is_host a ≡ true → device_touches a b ≡ false
-host_touches (Host_write r bytes) b h = refl
-host_touches (Device d) b h = absurd (cc h)
-host_touches (Host_read r) b h = refl
-
 command_touches : (a : Act) (b : ℕ) → device_touches a b ≡ true → (is_host a ≡ false) × (touches_block a b ≡ true)
 command_touches (Host_write r bytes) b h = absurd (cc h)
 command_touches (Device d) b h = (refl, h)

@@ -1,6 +1,7 @@
 pub mod Worlds
 pub mod Reordering
 pub mod Segments
+pub mod ScriptChunks
 pub mod Moving
 pub mod Heads
 pub mod Running

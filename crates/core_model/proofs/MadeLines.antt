@@ -19,8 +19,9 @@ use Rattle.core_model.specs.Lawful.{IsLawful}
 use Rattle.core_model.specs.Invariant.{turns_of}
 use Rattle.core_model.specs.Kept.{Kept}
 use Rattle.core_model.specs.Succession.{PlacesPlay}
+use Rattle.core_model.proofs.ScriptChunks.{turns_there}
 use Rattle.core_model.proofs.Giving.{stocked, vacant, vacant_buffer}
-use Rattle.core_model.proofs.Placements.{GivesTo, made_append, places_of, turns_there}
+use Rattle.core_model.proofs.Placements.{GivesTo, made_append, places_of}
 use Rattle.core_model.proofs.ItemCases.{result_of}
 use Rattle.core_model.proofs.Making.{made_of, play_made}
 use Rattle.core_model.proofs.Scenes.{Scene, scene, SceneKinds}

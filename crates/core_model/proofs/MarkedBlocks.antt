@@ -20,7 +20,7 @@ use Rattle.core_model.specs.Marked.{IsOff, all_messages, IsMarkedBy}
 use Rattle.core_model.specs.Kept.{Kept}
 use Rattle.core_model.specs.Succession.{takes, stages_in, is_staged_in, all_places}
 use Rattle.core_model.proofs.Giving.{IsVacant, stocked, vacant}
-use Rattle.core_model.proofs.Placements.{places_of, places_of_append, all_places_append}
+use Rattle.core_model.proofs.Placements.{places_of, length_places, places_of_append, all_places_append}
 use Rattle.core_model.proofs.BlockSorts.{IsBuffers, IsPage, SortKept, same_sort, bind_sort, finish_sort, return_sort, home_sort, SortGiven, given_sort, SortStaged, stages_sort}
 use Rattle.core_model.proofs.ItemResults.{Placement, Nowhere, Bound_alone, Taken_new, Taken_for, Given_up, Staged_there}
 use Rattle.core_model.proofs.ItemCases.{result_of, result_placed}
@@ -38,7 +38,7 @@ messages_more : (pss : List (List Placed)) (ps : List Placed) (p : Placed) → a
 messages_more [] ps p = append-nil (ps ++ p ∷ []) ∙ ap (λ l. l ++ p ∷ []) (sym (append-nil ps))
 messages_more (qs ∷ pss) ps p = ap (λ l. qs ++ l) (messages_more pss ps p) ∙ sym (append_assoc qs (all_places (pss ++ ps ∷ [])) (p ∷ []))
 
-or_false : (c : Bool) → (c || false) ≡ c
+pub or_false : (c : Bool) → (c || false) ≡ c
 or_false true = refl
 or_false false = refl
 
@@ -145,7 +145,7 @@ sorts_by old new e k h = record {
   marked = λ b n o. subst (λ l. IsMarkedBy l b n) (sym e) (h.marked b n ((k b).off n o));
 }
 
-same_messages : (old new : Core) → scene new ≡ scene old → all_messages new ≡ all_messages old
+pub same_messages : (old new : Core) → scene new ≡ scene old → all_messages new ≡ all_messages old
 same_messages old new e = ap (λ v. places_of v.handed ++ v.open_chunk.placed ∷ []) e
 
 other_owner : (meaning : Meaning) (reading : Reading) (script : Script) (old : Core) (e : Event) (new : Core) → is_of_app e ≡ false → Step meaning reading script old e new → (b : ℕ) → SortKept (old.owner b) (new.owner b)
@@ -203,10 +203,6 @@ module _ (old : Core) (s : Sorts old) (p : Placed) (own : ℕ → Owner) where
 
   number_now : suc (length (places_of (handed old))) ≡ open_number old
   number_now = let a = handed_long old in let b = length_places (handed old) in omega (arith, a, b)
-    where
-      length_places : (ss : List Segment) → length (places_of ss) ≡ length ss
-      length_places [] = refl
-      length_places (x ∷ ss) = ap suc (length_places ss)
 
   pub quiet_now : p.block ≡ None → p.staged ≡ None → ((b : ℕ) → SortGiven p.mark (open_number old) b (old.owner b) (own b)) → SortsNow
   quiet_now none unstaged k =

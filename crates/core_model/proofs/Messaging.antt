@@ -40,7 +40,7 @@ use Rattle.core_model.proofs.ListedBatches.{ListsBatches, lists_kinds, line_batc
 use Rattle.core_model.proofs.PlacedLines.{PlacedCore, placed_kinds}
 use Rattle.core_model.proofs.StoodLines.{IsWhole, blocks_after, LineStood, Stood, stood_kinds, stood_there}
 use Rattle.core_model.proofs.EndValues.{message_values}
-use Rattle.core_model.proofs.Following.{Line, made_here, is_made_here, placed_here, follows_head, has_pages, has_blocks, batch_there, taken_turns}
+use Rattle.core_model.proofs.Following.{heads_placed, heads_length, Line, made_here, is_made_here, placed_here, follows_head, has_pages, has_blocks, batch_there, taken_turns}
 
 -- What is known of a state that steps reach ----------------------------------------------------------------------------------------
 
@@ -68,14 +68,6 @@ length_mapped : {A B : Type 0} (f : A → B) (xs : List A) → length (map f xs)
 length_mapped f [] = refl
 length_mapped f (x ∷ xs) = ap suc (length_mapped f xs)
 
-heads_long : (front ss : List Segment) → length (heads_behind front ss) ≡ length ss
-heads_long front [] = refl
-heads_long front (s ∷ ss) = ap suc (heads_long (front ++ s ∷ []) ss)
-
-heads_places : (front ss : List Segment) → map (λ h. h.placed) (heads_behind front ss) ≡ places_of ss
-heads_places front [] = refl
-heads_places front (s ∷ ss) = ap (λ l. s.placed ∷ l) (heads_places (front ++ s ∷ []) ss)
-
 module _ (log : Log) (reading : Reading) (core : Core) (k : Kept log.meaning reading log.script core) (known : Facts log.meaning log.script core)
     (front : List Segment) (s : Segment) (back : List Segment) (e : handed core ≡ front ++ s ∷ back) where
   line : Line log.script (front ++ s ∷ back)
@@ -93,12 +85,12 @@ module _ (log : Log) (reading : Reading) (core : Core) (k : Kept log.meaning rea
   number = suc (length front)
 
   long_before : (before : List Head) → before ≡ heads front → suc (length before) ≡ number
-  long_before before h = ap suc (ap length h ∙ heads_long [] front)
+  long_before before h = ap suc (ap length h ∙ heads_length [] front)
 
   -- the places of all messages up to this one
   all_placed : (before : List Head) (m : Head) → before ≡ heads front → m ≡ head_behind front s → map (λ h. h.placed) before ++ m.placed ∷ [] ≡ places_of (front ++ s ∷ [])
   all_placed before m h g =
-      ap (λ l. l ++ m.placed ∷ []) (ap (map (λ h. h.placed)) h ∙ heads_places [] front) ∙ ap (λ p. places_of front ++ p ∷ []) (ap (λ m. m.placed) g) ∙ sym (places_of_append front (s ∷ []))
+      ap (λ l. l ++ m.placed ∷ []) (ap (map (λ h. h.placed)) h ∙ heads_placed [] front) ∙ ap (λ p. places_of front ++ p ∷ []) (ap (λ m. m.placed) g) ∙ sym (places_of_append front (s ∷ []))
 
   follows : (before : List Head) (m : Head) → before ≡ heads front → m ≡ head_behind front s → FollowsHead log before m
   follows before m h g = subst (FollowsHead log before) (sym g) (follows_head log.script front s back line log refl before h)

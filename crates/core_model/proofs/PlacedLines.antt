@@ -26,7 +26,7 @@ use Rattle.core_model.specs.Succession.{takes, stages_in, is_staged_in, all_plac
 use Rattle.core_model.proofs.Binding.{or_left, or_right}
 use Rattle.core_model.proofs.Giving.{IsVacant, stocked, vacant}
 use Rattle.core_model.proofs.KeptBlocks.{had_newest}
-use Rattle.core_model.proofs.Placements.{places_of, all_places_append}
+use Rattle.core_model.proofs.Placements.{places_of, length_places, all_places_append}
 use Rattle.core_model.proofs.BlockSorts.{IsUnmade, page_or_buffers, unmade_or_buffers, unmade_or_page}
 use Rattle.core_model.proofs.MarkedBlocks.{Sorts, ends_in, sorts_kinds}
 use Rattle.core_model.proofs.PlacedPages.{PlacedRight, TopRight, quiet_placed, quiet_top, on_newest_placed, on_other_placed}
@@ -38,10 +38,6 @@ use Rattle.core_model.proofs.Scenes.{Kinds, Scene, scene, other_scene, posts_sce
 -- the places of the chunks that were handed over, and those of the open one
 messages_last : (pss : List (List Placed)) (ps : List Placed) → all_places (pss ++ ps ∷ []) ≡ all_places pss ++ ps
 messages_last pss ps = all_places_append pss (ps ∷ []) ∙ ap (λ l. all_places pss ++ l) (append-nil ps)
-
-length_places : (ss : List Segment) → length (places_of ss) ≡ length ss
-length_places [] = refl
-length_places (x ∷ ss) = ap suc (length_places ss)
 
 or_parts : (a b : Bool) → (a || b) ≡ false → (a ≡ false) × (b ≡ false)
 or_parts true b e = absurd (cc e)

@@ -11,6 +11,8 @@ use Rattle.vk_types.proofs.Lists.{all_append, all_map, all_both, pairs_append}
 use Rattle.core_model.specs.CoreState.{Page, Newest}
 use Rattle.core_model.specs.OtherParts.{is_among}
 use Rattle.core_model.specs.Succession.{MayTake, TakesLawfully, staged_range_of, staged_ranges, once}
+use Rattle.core_model.proofs.Uses.{map_append}
+use Rattle.core_model.proofs.Growing.{all_to_map}
 use Rattle.core_model.proofs.MarkedBlocks.{ends_in}
 
 -- Each number once --------------------------------------------------------------------------------------------------------------------
@@ -78,14 +80,7 @@ all_of_map : {A B : Type 0} (f : A → B) (P : B → Type 0) (xs : List A) → A
 all_of_map f P [] h = tt
 all_of_map f P (x ∷ xs) h = (h.0, all_of_map f P xs h.1)
 
-all_to_map : {A B : Type 0} (f : A → B) (P : B → Type 0) (xs : List A) → AllByRecursion (λ x. P (f x)) xs → AllByRecursion P (map f xs)
-all_to_map f P [] h = tt
-all_to_map f P (x ∷ xs) h = (h.0, all_to_map f P xs h.1)
-
 -- The places of a chunk's items -------------------------------------------------------------------------------------------------------
-
-abbrev blocks_of : List Range → List ℕ
-blocks_of rs = map (λ r. r.block) rs
 
 pub record PlacedRight (earlier : List (List Placed)) (pages : List Page) (here : List Placed) : Type 0 where
   pub takes : TakesLawfully earlier here
@@ -148,10 +143,6 @@ no_meeting q r h = by (q.block == r.block) refl
         let l : q.to ≤ r.from = h (eqb-true q.block r.block e) in
         let f : nat_lt r.from q.to ≡ false = elim (cases_Bool (nat_lt r.from q.to)) [ inl t ↦ absurd (let z = ltb-true r.from q.to t in let w : ⊥ = omega (arith, z, l) in w) | inr f ↦ f ] in
         ap (λ c. (nat_lt q.from r.to && c) && (nat_lt q.from q.to && nat_lt r.from r.to)) f ∙ last_false (nat_lt q.from r.to) (nat_lt q.from q.to && nat_lt r.from r.to)
-
-map_append : {A B : Type 0} (f : A → B) (xs ys : List A) → map f (xs ++ ys) ≡ map f xs ++ map f ys
-map_append f [] ys = refl
-map_append f (x ∷ xs) ys = ap (λ l. f x ∷ l) (map_append f xs ys)
 
 module _ (earlier : List (List Placed)) (pages : List Page) (here : List Placed) (p : Placed) (r : Range) (is : p.staged ≡ Some r) (untaken : p.block ≡ None) where
   more_ranges : staged_ranges (here ++ p ∷ []) ≡ staged_ranges here ++ r ∷ []

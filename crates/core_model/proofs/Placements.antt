@@ -92,48 +92,13 @@ pub all_places_append : (xs ys : List (List Placed)) → all_places (xs ++ ys) �
 all_places_append [] ys = refl
 all_places_append (x ∷ xs) ys = ap (λ l. x ++ l) (all_places_append xs ys) ∙ sym (append_assoc x (all_places xs) (all_places ys))
 
+pub length_places : (ss : List Segment) → length (places_of ss) ≡ length ss
+length_places [] = refl
+length_places (x ∷ ss) = ap suc (length_places ss)
+
 pub places_of_append : (xs ys : List Segment) → places_of (xs ++ ys) ≡ places_of xs ++ places_of ys
 places_of_append [] ys = refl
 places_of_append (x ∷ xs) ys = ap (λ l. x.placed ∷ l) (places_of_append xs ys)
 
 pub places_last : (front : List Segment) (s : Segment) → all_places (places_of (front ++ s ∷ [])) ≡ all_places (places_of front) ++ s.placed
 places_last front s = ap all_places (places_of_append front (s ∷ [])) ∙ all_places_append (places_of front) (s.placed ∷ []) ∙ ap (λ l. all_places (places_of front) ++ l) (append-nil s.placed)
-
--- The chunks of the log ------------------------------------------------------------------------------------------------------------
-
-get_there : (xs : List (List Turn)) (t : List Turn) (ys : List (List Turn)) → slice_get (xs ++ t ∷ ys) (length xs) ≡ Some t
-get_there [] t ys = refl
-get_there (x ∷ xs) t ys = get_there xs t ys
-
--- chunk n is the n-th of those that were handed over
-pub turns_there : (script : Script) (front : List Segment) (s : Segment) (back : List Segment) (rest : List (List Turn)) → chunks script ≡ turns_of (front ++ s ∷ back) ++ rest
-    → chunk_turns script (suc (length front)) ≡ s.turns
-turns_there script front s back rest e =
-    let long : length (turns_of front) ≡ length front = length_turns front in
-    ap turns_or_none
-    (ap (λ l. slice_get l (length front)) (e ∙ split front) ∙ ap (slice_get (turns_of front ++ s.turns ∷ (turns_of back ++ rest))) (sym long) ∙ get_there (turns_of front) s.turns (turns_of back ++ rest))
-  where
-    length_turns : (ss : List Segment) → length (turns_of ss) ≡ length ss
-    length_turns [] = refl
-    length_turns (x ∷ ss) = ap suc (length_turns ss)
-
-    split : (ss : List Segment) → turns_of (ss ++ s ∷ back) ++ rest ≡ turns_of ss ++ s.turns ∷ (turns_of back ++ rest)
-    split [] = refl
-    split (x ∷ ss) = ap (λ l. x.turns ∷ l) (split ss)
-
--- as many chunks, from one on
-chunks_from : (script : Script) (pre mid : List Segment) (back : List Segment) (rest : List (List Turn)) (k : ℕ) → length pre ≡ k → chunks script ≡ turns_of (pre ++ (mid ++ back)) ++ rest
-    → map (chunk_turns script) (numbers_from (suc k) (length mid)) ≡ turns_of mid
-chunks_from script pre [] back rest k l e = refl
-chunks_from script pre (s ∷ mid) back rest k l e =
-    let here : chunk_turns script (suc k) ≡ s.turns = ap (λ k. chunk_turns script (suc k)) (sym l) ∙ turns_there script pre s (mid ++ back) rest e in
-    let more : length (pre ++ s ∷ []) ≡ suc k = let z = length-append pre (s ∷ []) in omega (arith, z, l) in
-    let again : chunks script ≡ turns_of ((pre ++ s ∷ []) ++ (mid ++ back)) ++ rest = e ∙ ap (λ l. turns_of l ++ rest) (sym (append_assoc pre (s ∷ []) (mid ++ back))) in
-    ap (λ t. t ∷ map (chunk_turns script) (numbers_from (suc (suc k)) (length mid))) here ∙ ap (λ l. s.turns ∷ l) (chunks_from script (pre ++ s ∷ []) mid back rest (suc k) more again)
-
-pub upto_there : (script : Script) (front : List Segment) (s : Segment) (back : List Segment) (rest : List (List Turn)) → chunks script ≡ turns_of (front ++ s ∷ back) ++ rest
-    → turns_upto script (suc (length front)) ≡ joined (turns_of (front ++ s ∷ []))
-upto_there script front s back rest e =
-    let more : suc (length front) ≡ length (front ++ s ∷ []) = let z = length-append front (s ∷ []) in omega (arith, z) in
-    let again : chunks script ≡ turns_of ((front ++ s ∷ []) ++ back) ++ rest = e ∙ ap (λ l. turns_of l ++ rest) (sym (append_assoc front (s ∷ []) back)) in
-    ap (λ n. joined (map (chunk_turns script) (numbers_from 1 n))) more ∙ ap joined (chunks_from script [] (front ++ s ∷ []) back rest 0 refl again)

@@ -11,6 +11,7 @@ use Rattle.vk_types.specs.Entries.{run_entries, Counts, next, after_host, after_
 use Rattle.vk_types.specs.Listing.{is_act, act_places, acts, op_act, or_empty, act_of, act_at, written_ranges}
 use Rattle.vk_types.specs.Allowed.{World, happens, run_places, empty_world, outcome}
 use Rattle.core_model.specs.Listed.{plain_entries}
+use Rattle.core_model.proofs.Segments.{get_middle}
 
 -- Places ------------------------------------------------------------------------------------------------------------------------
 
@@ -122,10 +123,6 @@ take_front : (xs ys : List VkOp) (k : ℕ) (o : VkOp) → slice_get xs k ≡ Som
 take_front [] ys k o e = absurd (cc e)
 take_front (x ∷ xs) ys zero o e = refl
 take_front (x ∷ xs) ys (suc k) o e = ap (λ l. x ∷ l) (take_front xs ys k o e)
-
-pub get_middle : (front : List VkOp) (o : VkOp) (back : List VkOp) → slice_get (front ++ o ∷ back) (length front) ≡ Some o
-get_middle [] o back = refl
-get_middle (x ∷ front) o back = get_middle front o back
 
 -- the acts of the front
 front_acts : (contents : List (List ℕ)) (front back : List VkOp) → ActsFrom (act_at contents (front ++ back)) contents 0 0 front

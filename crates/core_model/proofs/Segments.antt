@@ -1,5 +1,5 @@
 -- The chunks of a core as one list of segments, and what is known of each part of it.
-use Rattle.std.proofs.Common.{◌≡◌, ℕ, suc, ◌+◌, ◌<◌, ◌≤◌, List, [], ◌∷◌, ◌++◌, length, refl, sym, ap, ◌∙◌, subst, arith, append_assoc, append-nil, length-append}
+use Rattle.std.proofs.Common.{◌≡◌, ℕ, suc, ◌+◌, ◌<◌, ◌≤◌, List, [], ◌∷◌, ◌++◌, length, refl, sym, ap, ◌∙◌, subst, Some, slice_get, arith, append_assoc, append-nil, length-append}
 use Rattle.std.specs.List.{AllByRecursion}
 use Rattle.vk_types.specs.Lists.{Sublist, ended}
 use Rattle.vk_types.specs.Entries.{Entry}
@@ -126,16 +126,14 @@ commands_have P (s ∷ ss) h =
     (commands_have P ss (all_back P (entries s) (flat ss) h))
 
 -- the parts of a segment's entries
-pub reads_have : (P : Entry → Type 0) (s : Segment) → AllByRecursion P (entries s) → AllByRecursion P s.reads
-reads_have P s h = all_front P s.reads (s.writes ++ s.commands) h
-
 pub writes_have : (P : Entry → Type 0) (s : Segment) → AllByRecursion P (entries s) → AllByRecursion P s.writes
 writes_have P s h = all_front P s.writes s.commands (all_back P s.reads (s.writes ++ s.commands) h)
 
--- what holds of each with each, the other way round
-pub all_swap : {A B : Type 0} (Q : A → B → Type 0) (xs : List A) (ys : List B) → AllByRecursion (λ x. AllByRecursion (Q x) ys) xs → AllByRecursion (λ y. AllByRecursion (λ x. Q x y) xs) ys
-all_swap Q xs [] h = tt
-all_swap Q xs (y ∷ ys) h = (
-  all_map (λ x. AllByRecursion (Q x) (y ∷ ys)) (λ x. Q x y) (λ x k. k.0) xs h,
-  all_swap Q xs ys (all_map (λ x. AllByRecursion (Q x) (y ∷ ys)) (λ x. AllByRecursion (Q x) ys) (λ x k. k.1) xs h),
-)
+-- the element that stands behind so many others
+pub get_middle : {A : Type 0} (front : List A) (x : A) (back : List A) → slice_get (front ++ x ∷ back) (length front) ≡ Some x
+get_middle [] x back = refl
+get_middle (y ∷ front) x back = get_middle front x back
+
+pub turns_length : (ss : List Segment) → length (turns_of ss) ≡ length ss
+turns_length [] = refl
+turns_length (s ∷ ss) = ap suc (turns_length ss)

@@ -32,7 +32,7 @@ use Rattle.core_model.proofs.Binding.{or_left, or_right, staging_kept, staging_a
 abbrev pub touch_on : BlockMap → Touch → Touch
 touch_on blocks t = record t { range = range_on blocks t.range }
 
-map_append : {A B : Type 0} (f : A → B) (xs ys : List A) → map f (xs ++ ys) ≡ map f xs ++ map f ys
+pub map_append : {A B : Type 0} (f : A → B) (xs ys : List A) → map f (xs ++ ys) ≡ map f xs ++ map f ys
 map_append f [] ys = refl
 map_append f (x ∷ xs) ys = ap (λ l. f x ∷ l) (map_append f xs ys)
 
