@@ -1,12 +1,11 @@
 -- A message's values are the counts that the Ends leave in order whose calls its chunk finishes.
-use Rattle.std.proofs.Common.{◌≡◌, ℕ, suc, ◌+◌, ◌-◌, Bool, true, false, cond, not, ◌&&◌, nat_lt, nat_le, List, [], ◌∷◌, ◌++◌, length, map, refl, sym, ap, ◌∙◌, subst, inl, inr, Option, Some, slice_get, arith, append_assoc, append-nil, length-append}
+use Rattle.std.proofs.Common.{◌≡◌, ℕ, suc, ◌+◌, ◌-◌, Bool, true, false, cond, not, ◌&&◌, nat_lt, nat_le, List, [], ◌∷◌, ◌++◌, length, refl, sym, ap, ◌∙◌, subst, inl, inr, arith, append_assoc, append-nil, length-append}
 use Rattle.std.proofs.lemmas.Bool.{eq-eqb}
 use Rattle.vk_types.specs.declared.message.QueryMark.{QueryMark}
 use Rattle.vk_types.specs.declared.message.QueryValue.{QueryValue}
-use Rattle.vk_types.specs.Lists.{numbers_from}
 use Rattle.vk_types.specs.Effects.{Meaning}
 use Rattle.core_model.specs.Script.{Create, Discard, No_overwrite, Stage, Command, Destroy, Create_shader, Mark_query, Set_state, Turn, Refused, Passed, Flushed, Asked, Item, Script, InOrder, at_start, turn_in_order, in_order}
-use Rattle.core_model.specs.Chunking.{chunks, cut, turns_or_none, chunk_turns, upto, last_call, joined}
+use Rattle.core_model.specs.Chunking.{chunks, cut, upto, last_call, joined}
 use Rattle.core_model.specs.CoreState.{Segment, Message, Core, of_messages, of_running, later, last_finished}
 use Rattle.core_model.specs.Readings.{Reading}
 use Rattle.core_model.specs.OtherParts.{value_at, values_between, values_of}

@@ -7,7 +7,7 @@ use Rattle.dx_types.specs.declared.range.Range.{Range}
 use Rattle.vk_types.specs.declared.message.Placed.{Placed}
 use Rattle.vk_types.specs.Effects.{Meaning}
 use Rattle.core_model.specs.Script.{Turn, Item, Script, updated}
-use Rattle.core_model.specs.CoreState.{Page, Segment, Owner, Unmade, Home, Returning, Spare, Live, Retired, Paged, Dropped, Pool, Core, open_number, taken_count, finished_count}
+use Rattle.core_model.specs.CoreState.{Page, Owner, Unmade, Home, Returning, Spare, Live, Retired, Paged, Dropped, Pool, Core, open_number, taken_count, finished_count}
 use Rattle.core_model.specs.Readings.{Reading}
 use Rattle.core_model.specs.Owners.{nothing_bound, bind_owner, retired, is_block}
 use Rattle.core_model.specs.Adding.{with_turn, placed_at, staged_range, page_owner}

@@ -20,15 +20,15 @@ use Rattle.core_model.specs.Readings.{Reading}
 use Rattle.core_model.specs.CoreStep.{Event, Chain}
 use Rattle.core_model.specs.Stands.{Stands}
 use Rattle.core_model.specs.Adding.{has_block}
-use Rattle.core_model.specs.OtherParts.{used_in, values_of}
+use Rattle.core_model.specs.OtherParts.{used_in}
 use Rattle.core_model.specs.Batching.{Made, nothing_made, made, batch_ops}
 use Rattle.core_model.specs.Batches.{batches}
 use Rattle.core_model.specs.Lawful.{IsLawful}
 use Rattle.core_model.specs.Invariant.{SnapRight, SnapsRight, turns_of, handed}
 use Rattle.core_model.specs.Kept.{Kept}
 use Rattle.core_model.specs.Queries.{QueriesRight}
-use Rattle.core_model.specs.Messages.{head_behind, heads_behind, heads, page_of, AreTaken, IsChunk, IsBatch, IsCopy, IsCompletion, IsPost}
-use Rattle.core_model.specs.Succession.{Head, Log, ChunkView, FollowsHead, FollowsChunk, FollowsBatch, FollowsSubmission, FollowsCompletion, FollowsPost, HasPages, HasBlocks, IsSnap, batch_head, completion_head, post_head, values_after, only_class, turns_upto}
+use Rattle.core_model.specs.Messages.{head_behind, heads, page_of, AreTaken, IsChunk, IsBatch, IsCopy, IsCompletion, IsPost}
+use Rattle.core_model.specs.Succession.{Head, Log, ChunkView, FollowsHead, FollowsChunk, FollowsBatch, FollowsSubmission, FollowsCompletion, FollowsPost, HasPages, HasBlocks, IsSnap, batch_head, completion_head, post_head, values_after, only_class}
 use Rattle.core_model.proofs.Worlds.{flat-append, of_messages-append}
 use Rattle.core_model.proofs.Segments.{messages_length, turns_of-append}
 use Rattle.core_model.proofs.Reading.{map_numbers}

@@ -1,14 +1,13 @@
 -- The places of items, as turns are taken one behind another: which block each buffer has, and what is made of the blocks.
-use Rattle.std.proofs.Common.{◌≡◌, ℕ, suc, List, [], ◌∷◌, ◌++◌, map, length, refl, sym, ap, ◌∙◌, subst, Some, slice_get, arith, append_assoc, append-nil, length-append}
+use Rattle.std.proofs.Common.{◌≡◌, ℕ, suc, List, [], ◌∷◌, ◌++◌, map, length, refl, sym, ap, ◌∙◌, subst, append_assoc, append-nil}
 use Rattle.vk_types.specs.declared.message.Placed.{Placed}
-use Rattle.vk_types.specs.Lists.{numbers_from}
 use Rattle.core_model.specs.Script.{Turn, Refused, Passed, Flushed, Asked, Item, Script}
-use Rattle.core_model.specs.Chunking.{ItemNo, items, joined, chunks, chunk_turns, turns_or_none}
+use Rattle.core_model.specs.Chunking.{ItemNo, items, joined}
 use Rattle.core_model.specs.Renaming.{BlockMap}
 use Rattle.core_model.specs.CoreState.{Segment}
 use Rattle.core_model.specs.Invariant.{turns_of}
 use Rattle.core_model.specs.Batching.{Made, make_turns, make_play}
-use Rattle.core_model.specs.Succession.{item_of, PlacesPlay, GivesBlocks, all_places, turns_upto}
+use Rattle.core_model.specs.Succession.{item_of, PlacesPlay, GivesBlocks, all_places}
 
 -- The places give each buffer its block after each item, and after all these blocks -----------------------------------------------
 

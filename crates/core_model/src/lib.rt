@@ -304,12 +304,11 @@ pub fn states_are_lawful()
         → core.memory ≡ run_entries meaning (flat (on_device core)) zeros }
 {}
 
-/// The law of host reads, of a lawful script whose calls ask for no count of a query, in every state that steps reach from the
-/// start and at the end of each run of the core that is stepped. A reply with bytes has those that its call's range has when the
-/// calls before it are taken one after another. Where the call has a last use, a host read of that range stands in the listing for
-/// it, and each order that the listing allows gives there exactly these bytes. And each host read of the listing is that of a call
-/// with a last use that was answered so. A call is asked at one place of a script, so the place that a clause is told of is the
-/// one that the reply is of.
+/// The law of host reads, of a lawful script, in every state that steps reach from the start and at the end of each run of the
+/// core that is stepped. A reply with bytes has those that its call's range has when the calls before it are taken one after
+/// another. Where the call has a last use, a host read of that range stands in the listing for it, and each order that the listing
+/// allows gives there exactly these bytes. And each host read of the listing is that of a call with a last use that was answered
+/// so. A call is asked at one place of a script, so the place that a clause is told of is the one that the reply is of.
 pub fn host_reads_are_answers()
     ensures replies { (meaning : Meaning) (reading : Reading) (script : Script) → IsLawful meaning script
         → (events : List Event) (core : Core) → Chain meaning reading script (start script) events core → RepliesAreReads meaning script core }
@@ -321,14 +320,12 @@ pub fn host_reads_are_answers()
         → (schedule : List ℕ) (core : Core) → IsRun meaning script schedule core → ReadsAreReplies meaning script core }
 {}
 
-/// The law of succession, of a lawful script whose calls ask for no count of a query, in every state that steps reach from the
-/// start, in each reading and by any choices. A message that stands for a chunk which was handed over follows the messages of the
-/// chunks before it, as chunk, batch, submission, completion and post: whichever ready commands were run, and however far each
-/// chunk came. Of completions and posts this supposes the values of queries, and that no buffer is created where it lives, without
-/// which a copy may be of a block that its buffer lost; the first small log shows that this can be. The values are the log's where
-/// the device's counts add up to the invocations of the turns. What the host writes for a chunk are the
-/// parts that its items have in the log, in zeros; the batches of the listing are those that are made of the chunks, and no other;
-/// and after each chunk the blocks that its items gave hold, as the listing leaves them, what the log's chunks so far leave in order.
+/// The law of succession, of a lawful script, in every state that steps reach from the start, in each reading and by any choices. A
+/// message that stands for a chunk which was handed over follows the messages of the chunks before it, as chunk, batch and
+/// submission, and, where the chunk is one of a completion or of a post that was not taken, as completion and post: whichever ready
+/// commands were run, and however far each chunk came. What the host writes for a chunk are the parts that its items have in the
+/// log, in zeros; the batches of the listing are those that are made of the chunks, and no other; and after each chunk the blocks
+/// that its items gave hold, as the listing leaves them, what the log's chunks so far leave in order.
 pub fn messages_succeed()
     ensures chunks { (log : Log) (reading : Reading) → IsLawful log.meaning log.script
         → (events : List Event) (core : Core) → Chain log.meaning reading log.script (start log.script) events core
