@@ -1,6 +1,6 @@
-ghost use Rattle.std.specs.Prelude.{◌≡◌, ◌≤◌, ◌++◌, length, replicate, take, drop, slice_range, IfOk};
+ghost use Rattle.std.specs.Prelude.{◌≡◌, ◌≤◌, ◌++◌, [], length, replicate, take, drop, slice_range, IfOk};
 ghost use Rattle.std.specs.Borrow.{sem, LendsBoth, Array, u8};
-ghost use Rattle.buffer_blocks.specs.Block.{bytes_of, LendsPart, LendsHalves};
+ghost use Rattle.buffer_blocks.specs.Block.{bytes_of, with_bytes, LendsPart, LendsHalves};
 
 use crate::bytes::Bytes;
 use dx_types::{BlockNo, ChunkNo};
@@ -63,6 +63,21 @@ impl Block {
         ensures back { result.1.now ≡ drop at (bytes_of self.old) }
     {
         split_slice(self.as_mut_slice(), at)
+    }
+
+    /// Takes all bytes out without a copy; the block has none until they are put back.
+    pub fn take_bytes(&mut self) -> Vec<u8>
+        ensures bytes { result.items ≡ bytes_of self.old }
+        ensures rest { self.new ≡ with_bytes self.old [] }
+    {
+        self.bytes.take()
+    }
+
+    /// Puts bytes into the block in place of those that it has.
+    pub fn put_bytes(&mut self, bytes: Vec<u8>)
+        ensures { self.new ≡ with_bytes self.old bytes.items }
+    {
+        self.bytes.put(bytes);
     }
 
     fn as_mut_slice(&mut self) -> &mut [u8]

@@ -1,9 +1,10 @@
-ghost use Rattle.std.specs.Prelude.{◌≡◌, ◌≤◌, length, replicate, slice_range, IfOk};
+ghost use Rattle.std.specs.Prelude.{◌≡◌, ◌≤◌, [], length, replicate, slice_range, IfOk};
 ghost use Rattle.std.specs.Borrow.{sem};
 ghost use Rattle.buffer_blocks.specs.BytesLent.{LendsBytes};
 
 use std::alloc::{AllocError, Global};
 use std::marker::Model;
+use std::mem;
 
 /// The bytes of a block. A clause sees the list of them.
 #[derive(Drop)]
@@ -55,5 +56,21 @@ impl Bytes {
         ensures value { result.now ≡ self.old }
     {
         self.list.as_mut_slice()
+    }
+
+    /// All bytes, of which none is left.
+    pub fn take(&mut self) -> Vec<u8>
+        ensures bytes { result.items ≡ self.old }
+        ensures rest { self.new ≡ [] }
+    {
+        let alloc = *self.list.allocator();
+        mem::replace(&mut self.list, Vec::new(alloc))
+    }
+
+    /// These bytes in place of those that there were.
+    pub fn put(&mut self, list: Vec<u8>)
+        ensures { self.new ≡ list.items }
+    {
+        self.list = list;
     }
 }

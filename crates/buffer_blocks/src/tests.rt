@@ -46,5 +46,11 @@ fn parts_of_a_block(rt: HostRuntime) -> Result<(), Fail> {
     assert_eq!(rt; block.part(1, 5), [1, 7, 7, 2].as_slice());
     fill_both(&mut block, 5);
     assert_eq!(rt; all(&block), [1, 1, 1, 1, 1, 2, 2, 2].as_slice());
+    let bytes = block.take_bytes();
+    assert_eq!(rt; bytes.as_slice(), [1, 1, 1, 1, 1, 2, 2, 2].as_slice());
+    assert_eq!(rt; block.len(), 0);
+    block.put_bytes([5, 6, 7].to_vec(alloc)?);
+    assert_eq!(rt; all(&block), [5, 6, 7].as_slice());
+    assert_eq!(rt; (block.number, block.retired), (3, 0));
     Ok(())
 }

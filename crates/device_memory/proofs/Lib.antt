@@ -1,0 +1,11 @@
+pub mod Puts
+pub mod Exchanges
+pub mod RangeBytes
+pub mod Moves
+pub mod Placed
+pub mod Stored
+pub mod Bindings
+pub mod Steps
+pub mod Sizes
+pub mod Dispatched
+pub mod Commands

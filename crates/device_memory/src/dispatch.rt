@@ -1,0 +1,124 @@
+// Dispatches of a module.
+
+ghost use Rattle.std.specs.Prelude.{◌≡◌, ◌*◌, ◌<◌, ◌^◌, cond, nat_le, Some, IfOk, OnOk, OnErr};
+ghost use Rattle.std.specs.List.{AllByRecursion};
+ghost use Rattle.shader_model.specs.Dispatch.{is_allowed, volume};
+ghost use Rattle.spirv_words.specs.Meaning.ModuleDispatch.{IsDefined, group_of, module_dispatched};
+ghost use Rattle.vk_types.specs.Lists.{Pairwise};
+ghost use Rattle.vk_types.specs.Effects.{group_counts, put_slots, slots_words};
+ghost use Rattle.device_memory.specs.Held.{AreAlike, memory_of};
+ghost use Rattle.device_memory.specs.Meant.{module_meaning_of};
+ghost use Rattle.device_memory.specs.Ranges.{AreApart, CanBind};
+ghost use Rattle.device_memory.specs.Runs.{CanDispatch};
+
+use crate::DeviceMemory;
+use shader_slots::Slots;
+use spirv_run::Machine;
+use spirv_words::Module;
+use std::alloc::AllocError;
+use vk_types::{Groups, SlotRange};
+
+/// The most groups along x, y or z, and the most invocations, of a dispatch that runs.
+const GROUPS: u32 = 65_535;
+
+const INVOCATIONS: u128 = 16_777_216;
+
+fn product(x: u32, y: u32, z: u32) -> u128
+    ensures value { result ≡ x * y * z }
+    ensures limit { result < 2 ^ 96 }
+{
+    u128::from(x) * u128::from(y) * u128::from(z)
+}
+
+/// How many places there are below sizes.
+fn volume(sizes: [u32; 3]) -> u128
+    ensures value { result ≡ volume sizes }
+    ensures limit { result < 2 ^ 96 }
+{
+    product(sizes[0], sizes[1], sizes[2])
+}
+
+/// Whether so many groups of so many invocations each are few enough. No group at all is.
+fn are_few(count: u128, each: u128) -> bool
+    requires { count < 2 ^ 96 }
+    ensures { result ≡ nat_le (count * each) 16777216 }
+{
+    if count == 0 {
+        return true;
+    }
+    if each > INVOCATIONS {
+        return false;
+    }
+    count * each <= INVOCATIONS
+}
+
+/// Whether so many groups of a size run.
+fn is_allowed(groups: [u32; 3], size: [u32; 3]) -> bool
+    ensures { result ≡ is_allowed groups size }
+{
+    if groups[0] > GROUPS || groups[1] > GROUPS || groups[2] > GROUPS {
+        return false;
+    }
+    are_few(volume(groups), volume(size))
+}
+
+/// Runs so many groups of a machine's module, and answers how many invocations ran. Where they are too many none does.
+fn run_allowed(machine: &mut Machine<'_>, counts: [u32; 3], bound: &mut Slots<'_>) -> u64
+    requires { IsDefined machine.old }
+    ensures words { Some bound.new.words
+        ≡ cond (is_allowed counts (group_of machine.old)) (module_dispatched machine.old counts bound.old.words) (Some bound.old.words) }
+    ensures around { bound.new.around ≡ bound.old.around }
+    ensures count { result ≡ cond (is_allowed counts (group_of machine.old)) (volume counts * volume (group_of machine.old)) 0 }
+{
+    if is_allowed(counts, machine.group()) {
+        machine.dispatch(counts, bound)
+    } else {
+        0
+    }
+}
+
+impl DeviceMemory {
+    /// Runs a dispatch of the module, and answers how many invocations ran. Where it is too large none does. Only the
+    /// machine wants memory, before anything is written.
+    pub(crate) fn dispatch(
+        &mut self,
+        module: &Module,
+        groups: &Groups,
+        slots: &[SlotRange],
+    ) -> Result<u64, AllocError>
+        requires { CanDispatch self.old groups.now slots.now «module».now }
+        ensures memory { let m = memory_of self.old in OnOk result (memory_of self.new
+            ≡ put_slots ((module_meaning_of «module».now).words 0 (group_counts m groups.now) (slots_words m slots.now)) slots.now m) }
+        ensures count { IfOk result (λ n. n ≡ (module_meaning_of «module».now).count 0 (group_counts (memory_of self.old) groups.now)) }
+        ensures alike { OnOk result (AreAlike self.old self.new) }
+        ensures unchanged { OnErr result (self.new ≡ self.old) }
+    {
+        let counts = self.counts(groups);
+        let mut machine = Machine::new(self.alloc, module)?;
+        Ok(self.dispatch_groups(&mut machine, counts, slots))
+    }
+
+    // Bytes that may be written leave their blocks, so that the others can be lent beside them, and come back after it.
+    fn dispatch_groups(
+        &mut self,
+        machine: &mut Machine<'_>,
+        counts: [u32; 3],
+        slots: &[SlotRange],
+    ) -> u64
+        requires defined { IsDefined machine.old }
+        requires bound { AllByRecursion (CanBind self.old) slots.now }
+        requires apart { Pairwise AreApart slots.now }
+        ensures memory { let m = memory_of self.old in memory_of self.new
+            ≡ put_slots ((module_meaning_of machine.old).words 0 counts (slots_words m slots.now)) slots.now m }
+        ensures count { result ≡ (module_meaning_of machine.old).count 0 counts }
+        ensures alike { AreAlike self.old self.new }
+    {
+        let mut bound = Slots::new();
+        self.take_parts(slots, &mut bound);
+        self.lend_parts(slots, &mut bound);
+        let count = run_allowed(machine, counts, &mut bound);
+        let parts = bound.into_writes();
+        self.return_parts(slots, parts);
+        count
+    }
+}
