@@ -35,7 +35,7 @@ buffer_goes o past x id size usage bind misc stride bytes e =
     let h = all_passed ((is_wrong_at OnDevice x, WrongContext) ∷ (buffer_checks o id size usage bind misc stride bytes ++ (false, TooMuchMemory) ∷ [])) e in
     record { free = free_id _ h.1.1.0; room = ltb-false _ _ h.1.1.1.1.1.1.1.1.1.1.1.1.1.1.1.0; few = h.1.1.1.1.1.1.1.1.1.1.1.1.1.1.1.1.0 }
 
-dynamic_usage : (u : ℕ) → is_dynamic (usage_from u) ≡ true → (u == 2) ≡ true
+pub dynamic_usage : (u : ℕ) → is_dynamic (usage_from u) ≡ true → (u == 2) ≡ true
 dynamic_usage u = elim (u == 0) as (λ b. (usage_number (if b then Default else if u == 1 then Immutable else if u == 2 then Dynamic else Staging) == 2) ≡ true → (u == 2) ≡ true) [
   | true ↦ λ e. absurd cc
   | false ↦ elim (u == 1) as (λ b. (usage_number (if b then Immutable else if u == 2 then Dynamic else Staging) == 2) ≡ true → (u == 2) ≡ true) [

@@ -51,10 +51,10 @@ cond_some : {X : Type 0} (b : Bool) (v : X) (o : Option X) → is_some o ≡ tru
 cond_some true v o e = refl
 cond_some false v o e = e
 
-some_insert : {X : Type 0} (m : IdMap X) (k : ℕ) (v : X) (q : ℕ) → is_some (get m q) ≡ true → is_some (get (insert m k v) q) ≡ true
+pub some_insert : {X : Type 0} (m : IdMap X) (k : ℕ) (v : X) (q : ℕ) → is_some (get m q) ≡ true → is_some (get (insert m k v) q) ≡ true
 some_insert m k v q e = ap is_some (get-insert m k v q) ∙ cond_some (eq_by_cmp nat_cmp q k) v (get m q) e
 
-some_remove : {X : Type 0} (m : IdMap X) (k q : ℕ) → (q ≡ k → ⊥) → is_some (get m q) ≡ true → is_some (get (remove m k) q) ≡ true
+pub some_remove : {X : Type 0} (m : IdMap X) (k q : ℕ) → (q ≡ k → ⊥) → is_some (get m q) ≡ true → is_some (get (remove m k) q) ≡ true
 some_remove m k q apart e = ap is_some (get-remove m k q ∙ ap (λ b. cond b None (get m q)) (other_key q k apart)) ∙ e
 
 begun_some : (o : Option Query) (queries : IdMap Query) (k q : ℕ) → is_some (get queries q) ≡ true → is_some (get (begun_query o queries k) q) ≡ true
@@ -75,7 +75,7 @@ queries_some n queries _ q e = e
 by_live : (o o' : Objects) (cs : List Numbered) → ((class id : ℕ) → is_live o class id ≡ true → is_live o' class id ≡ true) → ListLive o cs → ListLive o' cs
 by_live o o' cs still h = λ class id n. still class id (h class id n)
 
-set_at : (P : Context → Type 0) (xs : List Context) (i j : ℕ) (v d : Context) → P v → P (slice_index_or xs j d) → P (slice_index_or (slice_set xs i v) j d)
+pub set_at : (P : Context → Type 0) (xs : List Context) (i j : ℕ) (v d : Context) → P v → P (slice_index_or xs j d) → P (slice_index_or (slice_set xs i v) j d)
 set_at P [] i j v d pv h = h
 set_at P (x ∷ xs) zero zero v d pv h = pv
 set_at P (x ∷ xs) zero (suc j) v d pv h = h
@@ -131,7 +131,7 @@ lists_recorded n o x c live h = record {
   listed = h.listed;
 }
 
-one_value : {X : Type 0} (b : Bool) (v w : X) (o : Option X) → cond b (Some v) o ≡ Some w → (v ≡ w) ⊎ (o ≡ Some w)
+pub one_value : {X : Type 0} (b : Bool) (v w : X) (o : Option X) → cond b (Some v) o ≡ Some w → (v ≡ w) ⊎ (o ≡ Some w)
 one_value true v w o e = inl (ap (λ p. unwrap_or p w) e)
 one_value false v w o e = inr e
 
@@ -153,7 +153,7 @@ pub left_of : (a b : Bool) → a || b ≡ false → a ≡ false
 left_of true b e = absurd cc
 left_of false b e = refl
 
-any_at : {X : Type 0} (test : X → Bool) (xs : List X) (i : ℕ) (d : X) → list_any test xs ≡ false → test d ≡ false → test (slice_index_or xs i d) ≡ false
+pub any_at : {X : Type 0} (test : X → Bool) (xs : List X) (i : ℕ) (d : X) → list_any test xs ≡ false → test d ≡ false → test (slice_index_or xs i d) ≡ false
 any_at test [] i d e f = f
 any_at test (x ∷ xs) zero d e f = left_of (test x) (list_any test xs) e
 any_at test (x ∷ xs) (suc i) d e f = any_at test xs i d (none_of (test x) (list_any test xs) e) f
@@ -201,7 +201,7 @@ destroyed_if false false false false o i last p cs none h = h
 destroyed_list : (o : Objects) (k i : ℕ) → Passed (destroy_checks o k i) → (cs : List Numbered) → Member o cs → ListLive o cs → ListLive (destroyed o k i) cs
 destroyed_list o k i p cs none h = destroyed_if (k == 1) (k == 2) (k == 3) (k == 4) o i (if k == 5 then known_list o i else (true, BadUsage) ∷ []) p cs none h
 
-contexts_if : (t1 t2 t3 t4 : Bool) (o : Objects) (i : ℕ)
+pub contexts_if : (t1 t2 t3 t4 : Bool) (o : Objects) (i : ℕ)
     → (if t1 then record o { buffers = remove o.buffers i } else if t2 then record o { views = remove o.views i } else if t3 then record o { shaders = remove o.shaders i } else if t4 then record o { queries = remove o.queries i } else record o { lists = remove o.lists i }).contexts ≡ o.contexts
 contexts_if true t2 t3 t4 o i = refl
 contexts_if false true t3 t4 o i = refl
@@ -209,14 +209,14 @@ contexts_if false false true t4 o i = refl
 contexts_if false false false true o i = refl
 contexts_if false false false false o i = refl
 
-one_removed : {X : Type 0} (m : IdMap X) (k q : ℕ) (v : X) → get (remove m k) q ≡ Some v → get m q ≡ Some v
+pub one_removed : {X : Type 0} (m : IdMap X) (k q : ℕ) (v : X) → get (remove m k) q ≡ Some v → get m q ≡ Some v
 one_removed m k q v e = by_test (eq_by_cmp nat_cmp q k) (get m q) (sym (get-remove m k q) ∙ e)
   where
     by_test : (b : Bool) (o : Option _) → cond b None o ≡ Some v → o ≡ Some v
     by_test true o f = absurd cc
     by_test false o f = f
 
-lists_if : (t1 t2 t3 t4 : Bool) (o : Objects) (i l : ℕ) (cs : List Numbered)
+pub lists_if : (t1 t2 t3 t4 : Bool) (o : Objects) (i l : ℕ) (cs : List Numbered)
     → get (if t1 then record o { buffers = remove o.buffers i } else if t2 then record o { views = remove o.views i } else if t3 then record o { shaders = remove o.shaders i } else if t4 then record o { queries = remove o.queries i } else record o { lists = remove o.lists i }).lists l ≡ Some cs
     → get o.lists l ≡ Some cs
 lists_if true t2 t3 t4 o i l cs e = e

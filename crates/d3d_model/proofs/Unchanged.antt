@@ -58,7 +58,7 @@ destroyed_if false false true t4 o i last p cs none = record { buffers = λ id n
 destroyed_if false false false true o i last p cs none = record { buffers = λ id named. refl; views = λ id named. refl }
 destroyed_if false false false false o i last p cs none = record { buffers = λ id named. refl; views = λ id named. refl }
 
-same_views_all : (n : ℕ) (o : Objects) (cs : List Numbered) → (played_all n o cs).views ≡ o.views
+pub same_views_all : (n : ℕ) (o : Objects) (cs : List Numbered) → (played_all n o cs).views ≡ o.views
 same_views_all n o [] = refl
 same_views_all n o (c ∷ cs) = same_views_all n (played n o c.call) cs
 
@@ -71,7 +71,7 @@ agrees_each n o x c cs = elim (x == 0) as (λ b. ListAgrees o (if b then played 
   | false ↦ agrees_same o (recorded_on n o x c) cs refl refl
 ]
 
-agrees_after : (n : ℕ) (o : Objects) (past : Past) (x : ℕ) (c : Call) → Passed (call_checks o past x c) → (cs : List Numbered) → ListLive o cs → Member o cs → ListAgrees o (objects_after n o x c) cs
+pub agrees_after : (n : ℕ) (o : Objects) (past : Past) (x : ℕ) (c : Call) → Passed (call_checks o past x c) → (cs : List Numbered) → ListLive o cs → Member o cs → ListAgrees o (objects_after n o x c) cs
 agrees_after n o past x (calls.Buffer k size usage bind misc stride bytes) p cs live none =
     record { buffers = λ id named. get_other o.buffers k _ id (fresh (is_live_buffer o) k id p.0 p.1.0 (live 1 id named)); views = λ id named. refl }
 agrees_after n o past x (calls.View k res kind form components first count) p cs live none =

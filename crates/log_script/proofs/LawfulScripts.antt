@@ -1,0 +1,27 @@
+-- The script of every log is lawful: what is asked of it, part by part.
+use Rattle.std.proofs.Common.{List}
+use Rattle.call_log.specs.Call.{Issued}
+use Rattle.core_model.specs.Script.{Item}
+use Rattle.core_model.specs.Lawful.{IsLawful}
+use Rattle.log_script.specs.LogScript.{meaning_of, script_of}
+use Rattle.log_script.proofs.Numbering.{numbers, next}
+use Rattle.log_script.proofs.Classes.{fits, none}
+use Rattle.log_script.proofs.TurnsBound.{script_bound}
+use Rattle.log_script.proofs.FewDynamic.{few_at}
+use Rattle.log_script.proofs.LawfulTurns.{meets, asks_rightly, uses_rightly, plays_rightly, bound_fits}
+
+pub lawful : (log : List Issued) → IsLawful (meaning_of log) (script_of log)
+lawful log = record {
+  numbers = numbers log;
+  calls = next log;
+  uses = uses_rightly log;
+  asks = asks_rightly log;
+  plays = plays_rightly log;
+  fits = bound_fits log;
+  filled = λ front call item ends play bound back e. (meets log front (Item call item ends play bound) back e).fits.filled;
+  quiet = λ front call item ends play bound back e. (script_bound log front call item ends play bound back e).quiet;
+  binds = λ front call item ends play bound back e. (script_bound log front call item ends play bound back e).touched;
+  classes = fits log;
+  staging = none log;
+  few = few_at (meaning_of log) log;
+}

@@ -1,0 +1,13 @@
+pub mod Makers
+pub mod Plays
+pub mod Turns
+pub mod LogScript
+pub mod Worked
+pub mod Showing
+pub mod Fitting
+pub mod FittingTurns
+pub mod Standing
+pub mod Agreeing
+pub mod Said
+pub mod Answered
+pub mod RunText
