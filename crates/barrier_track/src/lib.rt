@@ -16,9 +16,6 @@ mod tracker;
 
 pub use tracker::Tracker;
 
-#[cfg(test)]
-mod tests;
-
 /// A law of these barriers: a listing that has exactly the barriers that its hazards cause covers each hazard of two
 /// commands.
 pub fn barriers_cover()

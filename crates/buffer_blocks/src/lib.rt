@@ -5,6 +5,3 @@ mod block;
 mod bytes;
 
 pub use block::Block;
-
-#[cfg(test)]
-mod tests;

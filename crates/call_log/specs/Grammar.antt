@@ -2,6 +2,7 @@
 use Rattle.std.specs.Prelude.{◌≡◌, ℕ, ◌+◌, ◌*◌, ◌<◌, ◌≤◌, ◌^◌, ◌==◌, nat_lt, nat_le, ◌&&◌, ◌||◌, not, IsTrue, Bool, zero, suc, Option, None, Some, All, slice_get, get_or, ⊤, List, [], ◌∷◌, ◌++◌, length, take, drop, map, ◌⊎◌, if◌then◌else◌}
 use Rattle.std.specs.List.{flat_map, AllByRecursion}
 use Rattle.std.specs.Option.{is_some}
+use Rattle.dx_types.specs.declared.limits.TheConstants.{MAX_INPUT}
 use Rattle.byteorder.specs.Endian.{little_number, little_bytes}
 use Rattle.call_log.specs.declared.fault.LogFault.{LogFault}
 use Rattle.call_log.specs.declared.fault.LogKind.TheVariants.{Magic, Version, Truncated, BodyLength, UnknownKind, Trailing, NoEnd}
@@ -162,7 +163,7 @@ frames_at bytes starts = map (λ at. frame_at (drop at bytes)) starts
 
 -- At each of these places a record stands, each begins where the one before it ends, and they are a log.
 pub record Indexed (bytes starts : List ℕ) : Type 0 where
-  pub small : length bytes ≤ 67108864
+  pub small : length bytes ≤ MAX_INPUT
   pub few : 8 * length starts + 16 ≤ length bytes
   pub within : All (λ at. at ≤ length bytes) starts
   pub whole : All (λ at. IsWhole (drop at bytes)) starts

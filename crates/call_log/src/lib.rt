@@ -18,6 +18,3 @@ pub use item::Item;
 pub use laws::{one_reading, puts_read_back};
 pub use log::{Log, read_log};
 pub use put::{close_record, open_record, put_call, put_end, put_header};
-
-#[cfg(test)]
-mod tests;

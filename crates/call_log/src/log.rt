@@ -3,6 +3,7 @@ ghost use Rattle.std.specs.Borrow.{Bor};
 ghost use Rattle.std.specs.Option.{option_map};
 ghost use Rattle.call_log.specs.Grammar.{IsLog, IsWhole, header_fault, frame_at, frames_at, frame_no, start_behind, part_of, StandsAt, Indexed, BadOnly, length_of};
 ghost use Rattle.call_log.specs.View.{frame_view};
+ghost use Rattle.dx_types.specs.declared.limits.TheConstants.{MAX_INPUT};
 
 use crate::body::tail;
 use crate::fault::{Head, LogEnd};
@@ -36,7 +37,7 @@ impl Log<'_> {
     pub fn count(&self) -> CallNo
         ensures count { result ≡ length self.now.frames }
         ensures log { IsLog self.now.bytes self.now.frames }
-        ensures small { length self.now.bytes ≤ 67108864 }
+        ensures small { length self.now.bytes ≤ MAX_INPUT }
     {
         self.starts.len() as u32
     }
@@ -47,7 +48,7 @@ impl Log<'_> {
         ensures record { option_map frame_view result ≡ frame_no self.now.frames n }
         ensures at { IfSome result (λ i. i.at ≡ start_behind self.now.frames (n - 1)) }
         ensures lent { IfSome result (λ i. StandsAt self.now.bytes (i.at + 8) i.body.now) }
-        ensures small { IfSome result (λ i. i.at + 8 + length i.body.now ≤ 67108864) }
+        ensures small { IfSome result (λ i. i.at + 8 + length i.body.now ≤ MAX_INPUT) }
     {
         if n == 0 {
             return None;
@@ -98,7 +99,7 @@ fn front_item(at: u64, rest: &[u8]) -> Item<'_>
 /// Reads a log of at most 67,108,864 bytes: its records, or the first fault from the front. It keeps 4 bytes a
 /// call.
 pub fn read_log(alloc: Global, bytes: &[u8]) -> Result<Log<'_>, LogEnd>
-    requires { length bytes.now ≤ 67108864 }
+    requires { length bytes.now ≤ MAX_INPUT }
     ensures found { IfOk result (λ log. IsLog bytes.now log.frames) }
     ensures bytes { IfOk result (λ log. log.bytes ≡ bytes.now) }
     ensures fault { IfErr result (λ e. BadOnly bytes.now e) }
@@ -112,7 +113,7 @@ pub fn read_log(alloc: Global, bytes: &[u8]) -> Result<Log<'_>, LogEnd>
 
 // Where the records start.
 fn starts_of(alloc: Global, bytes: &[u8]) -> Result<Vec<u32>, LogEnd>
-    requires small { length bytes.now ≤ 67108864 }
+    requires small { length bytes.now ≤ MAX_INPUT }
     requires header { header_fault bytes.now ≡ None }
     ensures found { IfOk result (λ v. Indexed bytes.now v.items) }
     ensures fault { IfErr result (λ e. BadOnly bytes.now e) }

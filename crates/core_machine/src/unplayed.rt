@@ -5,9 +5,7 @@ ghost use Rattle.core_machine.specs.Unplayed.{FirstUnplayed, is_left_out, is_unp
 
 use call_log::{Call, Item, Log};
 use dx_types::CallNo;
-
-/// How many deferred contexts there are, numbered from 1.
-const DEFERRED_CONTEXTS: u16 = 16;
+use dx_types::limits::DEFERRED_CONTEXTS;
 
 /// The first call that the machine does not play yet, if there is one: it creates a shader, a query or a dynamic buffer,
 /// sets a word of a buffer as predicate, reads back without waiting, or stands on a deferred context.

@@ -10,6 +10,7 @@ use Rattle.core_model.specs.Owners.{finish_owner}
 use Rattle.core_model.specs.TakingPosts.{TakesPosts, with_fence}
 use Rattle.core_model.specs.AppActs.{device_commands, Acts}
 use Rattle.core_model.specs.OtherParts.{created, needed, is_among, unmade, ready_among, snaps_of, values_of, counted}
+use Rattle.dx_types.specs.declared.limits.TheConstants.{CLASS_BLOCKS}
 
 pub data Event : Type 0 where
   -- App takes this many posts, and does its next act if it can
@@ -95,7 +96,7 @@ Step meaning reading script old Finish new =
       owner = λ b. finish_owner (suc (finished_count old)) b (old.owner b);
     })
 Step meaning reading script old (Come_home block place) new =
-    (class : ℕ) × (k : ℕ) × (old.owner block ≡ Returning k) × (class * 64 ≤ block) × (block < class * 64 + 64)
+    (class : ℕ) × (k : ℕ) × (old.owner block ≡ Returning k) × (class * CLASS_BLOCKS ≤ block) × (block < class * CLASS_BLOCKS + CLASS_BLOCKS)
     × (slice_get (old.board.places class) place ≡ Some None)
     × (new ≡ record old {
       owner = updated block (Home k) old.owner;
@@ -119,7 +120,7 @@ abbrev pub AllComeHome : Meaning → Script → List ℕ → Core → Core → T
 AllComeHome meaning script [] old new = new ≡ old
 AllComeHome meaning script (b ∷ bs) old new =
     ((has_class b ≡ false) × AllComeHome meaning script bs old new)
-    ⊎ ((has_class b ≡ true) × (class : ℕ) × (place : ℕ) × (class * 64 ≤ b) × (b < class * 64 + 64)
+    ⊎ ((has_class b ≡ true) × (class : ℕ) × (place : ℕ) × (class * CLASS_BLOCKS ≤ b) × (b < class * CLASS_BLOCKS + CLASS_BLOCKS)
     × (first_vacant 0 (old.board.places class) ≡ Some place)
     × (mid : Core) × Step meaning First_choices script old (Come_home b place) mid × AllComeHome meaning script bs mid new)
 

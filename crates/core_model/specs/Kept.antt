@@ -6,6 +6,7 @@ use Rattle.vk_types.specs.Lists.{Pairwise}
 use Rattle.vk_types.specs.Effects.{Meaning}
 use Rattle.vk_types.specs.Entries.{Entry}
 use Rattle.dx_types.specs.declared.range.Range.{Range}
+use Rattle.dx_types.specs.declared.limits.TheConstants.{CLASSES, CLASS_BLOCKS}
 use Rattle.core_model.specs.Script.{Turn, Script}
 use Rattle.core_model.specs.CoreState.{Page, Segment, Owner, Unmade, Home, Returning, Spare, Live, Retired, Paged, Dropped, has_class, Board, Newest, Pool, Core, later, taken_count, open_number}
 use Rattle.core_model.specs.Chunking.{entry_count, joined}
@@ -102,9 +103,9 @@ IsNewest number owner (Some n) = IsPageOf number (owner n.page.block) × IsFreeF
 
 -- the board, the blocks that were not made yet and the spare pages, as the owners have them; and when blocks were taken
 pub record PlacesRight (board : Board) (pool : Pool) (owner : ℕ → Owner) (fence : ℕ) : Type 0 where
-  pub home : (class place b : ℕ) → slice_get (board.places class) place ≡ Some (Some b) → (class * 64 ≤ b) × (b < class * 64 + 64) × (k : ℕ) × (owner b ≡ Home k)
+  pub home : (class place b : ℕ) → slice_get (board.places class) place ≡ Some (Some b) → (class * CLASS_BLOCKS ≤ b) × (b < class * CLASS_BLOCKS + CLASS_BLOCKS) × (k : ℕ) × (owner b ≡ Home k)
   pub apart : (class p q b : ℕ) → slice_get (board.places class) p ≡ Some (Some b) → slice_get (board.places class) q ≡ Some (Some b) → p ≡ q
-  pub unmade : (class k : ℕ) → class < 8 → board.made class ≤ k → k < 64 → owner (class * 64 + k) ≡ Unmade
+  pub unmade : (class k : ℕ) → class < CLASSES → board.made class ≤ k → k < CLASS_BLOCKS → owner (class * CLASS_BLOCKS + k) ≡ Unmade
   pub next : 512 ≤ pool.next
   pub fresh : (b : ℕ) → pool.next ≤ b → owner b ≡ Unmade
   pub spare : AllByRecursion (λ p. owner p.block ≡ Spare) pool.spare

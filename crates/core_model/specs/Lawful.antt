@@ -2,6 +2,7 @@
 use Rattle.std.specs.Prelude.{◌≡◌, ℕ, ◌+◌, ◌<◌, ◌≤◌, Bool, true, false, cond, not, ◌&&◌, ◌||◌, ◌==◌, nat_lt, List, [], ◌∷◌, ◌++◌, length, Option, Some, None}
 use Rattle.std.specs.List.{list_any, AllByRecursion}
 use Rattle.dx_types.specs.declared.range.Range.{Range}
+use Rattle.dx_types.specs.declared.limits.TheConstants.{CLASSES, MAX_BUFFER_SIZE, MAX_DYNAMIC_OF_CLASS}
 use Rattle.vk_types.specs.declared.access.Stage.TheVariants as stage
 use Rattle.vk_types.specs.declared.touch.Touch.{Touch}
 use Rattle.vk_types.specs.declared.message.QueryMark.{QueryMark}
@@ -111,7 +112,7 @@ PlaysRightly meaning script front call (No_overwrite buffer from bytes) =
     × ((class : ℕ) × (script.class buffer ≡ Some class))
     × ((i : ℕ) → from ≤ i → i < from + length bytes → is_bound buffer front false i ≡ false)
 PlaysRightly meaning script front call (Stage bytes target skip) =
-    (length bytes ≤ 16777216) × ((r : Range) → target ≡ Some r → r.to ≡ r.from + length bytes)
+    (length bytes ≤ MAX_BUFFER_SIZE) × ((r : Range) → target ≡ Some r → r.to ≡ r.from + length bytes)
 PlaysRightly meaning script front call (Command w skip) = Unit {0}
 PlaysRightly meaning script front call (Destroy buffer) = (in_order meaning script front at_start).live buffer ≡ true
 PlaysRightly meaning script front call Create_shader = Unit {0}
@@ -135,13 +136,13 @@ may_bind Set_state = true
 -- a class is one of eight, and its blocks hold its buffers
 abbrev pub ClassFits : Script → ℕ → Option ℕ → Type 0
 ClassFits script buffer None = Unit {0}
-ClassFits script buffer (Some class) = (class < 8) × (script.size buffer ≤ class_length class)
+ClassFits script buffer (Some class) = (class < CLASSES) × (script.size buffer ≤ class_length class)
 
 -- at most 32 dynamic buffers of a class live
 abbrev pub FewLive : Script → (ℕ → Bool) → Type 0
 FewLive script live =
     (class : ℕ) (buffers : List ℕ) → Pairwise (λ r s. r ≡ s → ⊥) buffers → AllByRecursion (λ r. (live r ≡ true) × (script.class r ≡ Some class)) buffers
-    → length buffers ≤ 32
+    → length buffers ≤ MAX_DYNAMIC_OF_CLASS
 
 -- what may come behind a turn: a later call, or, where its call goes on, an item of the same
 abbrev pub ComesNext : Turn → Turn → Type 0

@@ -3,6 +3,7 @@
 use Rattle.std.specs.Prelude.{◌≡◌, ℕ, suc, ◌-◌, cond, List, [], ◌∷◌, ◌++◌, length, map, Some, slice_get}
 use Rattle.std.specs.List.{AllByRecursion}
 use Rattle.dx_types.specs.declared.range.Range.{Range}
+use Rattle.dx_types.specs.declared.limits.TheConstants.{CLASSES}
 use Rattle.buffer_blocks.specs.declared.block.Block.{Block}
 use Rattle.buffer_blocks.specs.Block.{bytes_of}
 use Rattle.vk_types.specs.declared.message.Snap.{Snap}
@@ -37,7 +38,7 @@ page_of b = record { block = b.number; len = length (bytes_of b) }
 
 -- a block of a class has its class's length, by its number, and another that of the buffer that took it
 abbrev pub block_length : Script → ℕ → ℕ → ℕ
-block_length script buffer block = cond (has_class block) (class_length (class_of 8 block)) (script.size buffer)
+block_length script buffer block = cond (has_class block) (class_length (class_of CLASSES block)) (script.size buffer)
 
 -- the buffers that take blocks, in order
 abbrev pub takers_of : Turn → List ℕ
@@ -96,7 +97,7 @@ IsCopy m s =
 -- the blocks of a class that the chunk gave up, retired by it
 pub record AreHomes (n : ℕ) (s : Segment) (homes : List Block) : Type 0 where
   pub numbers : map (λ b. b.number) homes ≡ only_class (marks s)
-  pub lengths : AllByRecursion (λ b. length (bytes_of b) ≡ class_length (class_of 8 b.number)) homes
+  pub lengths : AllByRecursion (λ b. length (bytes_of b) ≡ class_length (class_of CLASSES b.number)) homes
   pub retired : AllByRecursion (λ b. b.retired ≡ n) homes
 
 pub record IsCompletion (listing : List VkOp) (front : List Segment) (m : Message) (c : Completion) : Type 0 where

@@ -3,6 +3,7 @@ use Rattle.std.specs.Prelude.{◌≡◌, ℕ, suc, ◌+◌, ◌*◌, ◌<◌, Bo
 use Rattle.core_model.specs.Script.{updated}
 use Rattle.core_model.specs.CoreState.{Page, Board, Newest, Pool}
 use Rattle.core_model.specs.Readings.{Reading, chooses_first}
+use Rattle.dx_types.specs.declared.limits.TheConstants.{CLASS_BLOCKS, PAGE_BYTES}
 
 -- where a block of a class is had: from this place, where it is at home, or newly made
 pub data BlockChoice : Type 0 where
@@ -12,8 +13,8 @@ pub data BlockChoice : Type 0 where
 pub data Takes : BlockChoice → ℕ → ℕ → Board → Board → Type 0 where
   From_home : (class block place : ℕ) (board : Board) → (slice_get (board.places class) place ≡ Some (Some block))
       → Takes (At_home place) class block board (record board { places = updated class (slice_set (board.places class) place None) board.places })
-  New_made : (class : ℕ) (board : Board) → (board.made class < 64)
-      → Takes New_block class (class * 64 + board.made class) board (record board { made = updated class (suc (board.made class)) board.made })
+  New_made : (class : ℕ) (board : Board) → (board.made class < CLASS_BLOCKS)
+      → Takes New_block class (class * CLASS_BLOCKS + board.made class) board (record board { made = updated class (suc (board.made class)) board.made })
 
 -- the choice of the stepped core: the lowest place with a block, from number `at` on, else a new block
 abbrev pub first_home : ℕ → List (Option ℕ) → BlockChoice
@@ -33,7 +34,7 @@ pub record Staged : Type 0 where
 
 -- a page has at least 1,048,576 bytes
 abbrev pub fresh_page : Pool → ℕ → Page
-fresh_page pool len = record { block = pool.next; len = max len 1048576 }
+fresh_page pool len = record { block = pool.next; len = max len PAGE_BYTES }
 
 -- the page where bytes are staged: the open chunk's newest, the one with this place among those that came back, or a new one
 pub data PageChoice : Type 0 where

@@ -3,6 +3,7 @@ use Rattle.std.specs.Prelude.{◌≡◌, ℕ, zero, suc, ◌+◌, ◌-◌, ◌*�
 use Rattle.std.specs.List.{list_any, AllByRecursion}
 use Rattle.dx_types.specs.declared.range.Range.{Range}
 use Rattle.dx_types.specs.declared.range.Span.{Span}
+use Rattle.dx_types.specs.declared.limits.TheConstants.{CLASSES, CLASS_BLOCKS}
 use Rattle.buffer_blocks.specs.declared.block.Block.{Block}
 use Rattle.buffer_blocks.specs.Block.{bytes_of}
 use Rattle.vk_types.specs.declared.message.Placed.{Placed}
@@ -56,7 +57,7 @@ pub record IsOfChunk (script : Script) (n : ℕ) (m : Head) : Type 0 where
 -- the block is of the buffer's class, or of none
 abbrev pub IsOfClass : Option ℕ → ℕ → Type 0
 IsOfClass None b = has_class b ≡ false
-IsOfClass (Some class) b = (class * 64 ≤ b) × (b < class * 64 + 64) × (has_class b ≡ true)
+IsOfClass (Some class) b = (class * CLASS_BLOCKS ≤ b) × (b < class * CLASS_BLOCKS + CLASS_BLOCKS) × (has_class b ≡ true)
 
 -- the range of staged bytes has their length. No bytes have no range
 abbrev pub IsStagedRange : List ℕ → Option Range → Type 0
@@ -201,12 +202,12 @@ only_class (b ∷ bs) = cond (has_class b) (b ∷ only_class bs) (only_class bs)
 
 abbrev pub class_of : ℕ → ℕ → ℕ
 class_of zero b = 0
-class_of (suc fuel) b = cond (nat_lt b 64) 0 (suc (class_of fuel (b - 64)))
+class_of (suc fuel) b = cond (nat_lt b CLASS_BLOCKS) 0 (suc (class_of fuel (b - CLASS_BLOCKS)))
 
 -- a completion's homes are the blocks of a class that its marks name, retired by it
 pub record HasHomes (n : ℕ) (homes : List Block) (here : List Placed) : Type 0 where
   pub numbers : map (λ b. b.number) homes ≡ only_class (somes (map (λ p. p.mark) here))
-  pub lengths : AllByRecursion (λ b. length (bytes_of b) ≡ class_length (class_of 8 b.number)) homes
+  pub lengths : AllByRecursion (λ b. length (bytes_of b) ≡ class_length (class_of CLASSES b.number)) homes
   pub retired : AllByRecursion (λ b. b.retired ≡ n) homes
 
 -- a copy is of a staging buffer's block, with the bytes that the buffer has in order after chunk n

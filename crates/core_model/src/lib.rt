@@ -49,6 +49,7 @@ ghost use Rattle.core_model.specs.Marked.{IsOff, all_messages, IsMarkedBy, IsRet
 ghost use Rattle.core_model.specs.Messages.{heads, IsChunk, IsBatch, IsCompletion, IsPost};
 ghost use Rattle.core_model.specs.WorkedLogs.{no_shaders, update_copy_map, PlaysUpdateCopyMap, PlaysFiveBuffers};
 ghost use Rattle.core_model.specs.WorkedQuery.{count_groups, one_query, PlaysOneQuery};
+ghost use Rattle.dx_types.specs.declared.limits.TheConstants.{CLASSES};
 
 /// What the definitions give for three small logs: the whole run, with its replies and its listing. The first log, and the last,
 /// which has a query that counts, are all that the checks of the calls make sure of, so what is asked of a script can be met.
@@ -232,7 +233,7 @@ pub fn runs_keep_the_invariant()
         → (events : List Event) (core : Core) → Chain meaning reading script (start script) events core → ClassesRight script core }
     ensures blocks { (meaning : Meaning) (reading : Reading) (script : Script) → IsLawful meaning script
         → (events : List Event) (core : Core) → Chain meaning reading script (start script) events core
-        → is_due script core.open_chunk.turns core.future ≡ false → (class : ℕ) → class < 8 → HasBlockFor core class }
+        → is_due script core.open_chunk.turns core.future ≡ false → (class : ℕ) → class < CLASSES → HasBlockFor core class }
     ensures replies { (meaning : Meaning) (script : Script) → IsLawful meaning script
         → (schedule : List ℕ) (core : Core) → IsRun meaning script schedule core → AllByRecursion (IsRight meaning script) core.replies }
     ensures pending { (meaning : Meaning) (script : Script) → IsLawful meaning script

@@ -1,6 +1,7 @@
 ghost use Rattle.std.specs.Prelude.{◌≡◌, ◌<◌, ◌≤◌, [], ◌∷◌, ◌++◌, length, slice_get, IfOk, OnOk, OnErr, MatchOption, MatchResult};
 ghost use Rattle.std.specs.Option.{option_copied};
 ghost use Rattle.cs_chunk.specs.Chunk.{entries_of, pages_of, with_entries, with_pages};
+ghost use Rattle.dx_types.specs.declared.limits.TheConstants.{CHUNK_ENTRIES};
 
 use crate::entry::Entry;
 use crate::entry_queue::EntryQueue;
@@ -9,7 +10,7 @@ use dx_types::{CallNo, ChunkNo};
 use staging_pages::Page;
 use std::alloc::{AllocError, Global};
 
-/// A part of a run, which goes to the device as one batch: at most 64 entries in order, and the pages on which their
+/// A part of a run, which goes to the device as one batch: at most CHUNK_ENTRIES entries in order, and the pages on which their
 /// bytes are staged. `upto` is the last call that was done with when the chunk was handed over.
 #[derive(Drop)]
 pub struct Chunk {
@@ -20,7 +21,7 @@ pub struct Chunk {
 }
 
 impl Chunk {
-    /// A chunk of this number, up to call 0, with no entries and no pages. It has room for 64 entries from here on.
+    /// A chunk of this number, up to call 0, with no entries and no pages. It has room for CHUNK_ENTRIES entries from here on.
     pub fn new(alloc: Global, number: ChunkNo) -> Result<Chunk, AllocError>
         ensures number { IfOk result (λ chunk. chunk.number ≡ number) }
         ensures upto { IfOk result (λ chunk. chunk.upto ≡ 0) }
@@ -36,12 +37,12 @@ impl Chunk {
         })
     }
 
-    /// Adds an entry behind the others. Where there are 64, it comes back, and nothing changes.
+    /// Adds an entry behind the others. Where there are CHUNK_ENTRIES, it comes back, and nothing changes.
     pub fn add(&mut self, e: Entry) -> Result<(), Entry>
         ensures { MatchResult result
-            (λ _. (length (entries_of self.old) < 64)
+            (λ _. (length (entries_of self.old) < CHUNK_ENTRIES)
             × (self.new ≡ with_entries self.old (entries_of self.old ++ e ∷ [])))
-            (λ back. (length (entries_of self.old) ≡ 64) × (back ≡ e) × (self.new ≡ self.old)) }
+            (λ back. (length (entries_of self.old) ≡ CHUNK_ENTRIES) × (back ≡ e) × (self.new ≡ self.old)) }
     {
         self.entries.push(e)
     }
@@ -49,7 +50,7 @@ impl Chunk {
     /// How many entries there are.
     pub fn count(&self) -> u32
         ensures count { result ≡ length (entries_of self.now) }
-        ensures within { result ≤ 64 }
+        ensures within { result ≤ CHUNK_ENTRIES }
     {
         self.entries.len() as u32
     }

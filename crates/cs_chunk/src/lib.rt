@@ -9,6 +9,3 @@ mod page_queue;
 
 pub use chunk::Chunk;
 pub use entry::Entry;
-
-#[cfg(test)]
-mod tests;

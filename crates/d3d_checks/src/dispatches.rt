@@ -11,19 +11,16 @@ ghost use Rattle.d3d_model.specs.Stream.{cut, dispatch_ranges};
 ghost use Rattle.d3d_model.specs.Verdict.{has_shader};
 ghost use Rattle.d3d_state.specs.Meaning.{objects_of};
 ghost use Rattle.shader_model.specs.Dispatch.{volume};
+ghost use Rattle.dx_types.specs.declared.limits.TheConstants.{CONSTANT_SLOTS, MAX_THREADS, SRV_SLOTS, UAV_SLOTS};
 
 use crate::bound::push_some;
-use crate::numbers::{INDIRECT_ARGUMENTS, passes_end};
+use crate::numbers::passes_end;
 use d3d_resources::has_bit;
 use d3d_state::Objects;
 use d3d_views::view_range;
+use dx_types::limits::{INDIRECT_ARGUMENTS, MAX_GROUPS, MAX_INVOCATIONS};
 use dx_types::{Refusal, ResRange};
 use std::alloc::AllocError;
-
-/// The most groups each way, and the most invocations.
-const GROUPS: u32 = 65_535;
-
-const INVOCATIONS: u64 = 16_777_216;
 
 /// The bytes of the three counts of an indirect dispatch.
 pub(crate) const COUNT_BYTES: u64 = 12;
@@ -46,7 +43,7 @@ fn volume(sizes: [u32; 3]) -> u64
 /// The threads of a group of the shader that is set, 0 where none is.
 fn threads_now(objects: &Objects) -> u64
     ensures value { result ≡ threads_of (objects_of objects.now) }
-    ensures small { result ≤ 1024 }
+    ensures small { result ≤ MAX_THREADS }
 {
     match objects.shader_now() {
         Some(shader) => {
@@ -60,13 +57,13 @@ fn threads_now(objects: &Objects) -> u64
 
 /// Whether a dispatch of so many groups may be so large.
 fn is_allowed(groups: [u32; 3], threads: u64) -> bool
-    requires { threads ≤ 1024 }
+    requires { threads ≤ MAX_THREADS }
     ensures { result ≡ allows groups threads }
 {
-    if groups[0] > GROUPS || groups[1] > GROUPS || groups[2] > GROUPS {
+    if groups[0] > MAX_GROUPS || groups[1] > MAX_GROUPS || groups[2] > MAX_GROUPS {
         return false;
     }
-    volume(groups) * threads <= INVOCATIONS
+    volume(groups) * threads <= MAX_INVOCATIONS
 }
 
 /// Why a dispatch is refused.
@@ -102,7 +99,7 @@ pub(crate) fn indirect_refusal(objects: &Objects, res: u32, offset: u32) -> Opti
 
 /// What a constant slot, from 0 to 13, binds: no more than its buffer has.
 fn constant_bound(objects: &Objects, slot: usize) -> Option<ResRange>
-    requires { slot < 14 }
+    requires { slot < CONSTANT_SLOTS }
     ensures { let o = objects_of objects.now in
         result ≡ option_map (cut o) (slice_index_or (bindings_of o 0).constants slot None) }
 {
@@ -119,7 +116,7 @@ fn constant_bound(objects: &Objects, slot: usize) -> Option<ResRange>
 
 /// What a shader resource slot, from 0 to 15, binds.
 fn srv_bound(objects: &Objects, slot: usize) -> Option<ResRange>
-    requires { slot < 16 }
+    requires { slot < SRV_SLOTS }
     ensures { result ≡ bound_range (slice_index_or (bindings_of (objects_of objects.now) 0).srvs slot None) }
 {
     let bound = objects.bindings().srv(slot)?;
@@ -128,7 +125,7 @@ fn srv_bound(objects: &Objects, slot: usize) -> Option<ResRange>
 
 /// What an unordered access slot, from 0 to 7, binds.
 fn uav_bound(objects: &Objects, slot: usize) -> Option<ResRange>
-    requires { slot < 8 }
+    requires { slot < UAV_SLOTS }
     ensures { result ≡ bound_range (slice_index_or (bindings_of (objects_of objects.now) 0).uavs slot None) }
 {
     let bound = objects.bindings().uav(slot)?;

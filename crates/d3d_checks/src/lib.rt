@@ -21,8 +21,3 @@ pub use effect::apply;
 pub use keep::keep_call;
 pub use refusals::verdict;
 pub use shaders::decode_created;
-
-#[cfg(test)]
-mod shader_tests;
-#[cfg(test)]
-mod tests;

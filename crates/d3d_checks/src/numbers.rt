@@ -8,10 +8,6 @@ ghost use Rattle.d3d_state.specs.Sorts.{sort_from};
 use d3d_state::Sort;
 use dx_types::{Form, Shape, Usage};
 
-pub(crate) const CONSTANT_BUFFER: u32 = 1;
-
-pub(crate) const INDIRECT_ARGUMENTS: u32 = 4;
-
 /// The class of buffers, as a destruction names it.
 pub(crate) const BUFFER_CLASS: u32 = 1;
 

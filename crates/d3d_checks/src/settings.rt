@@ -6,16 +6,11 @@ ghost use Rattle.d3d_model.specs.Past.{Past};
 ghost use Rattle.d3d_model.specs.Verdict.{predicate_checks};
 ghost use Rattle.d3d_state.specs.Meaning.{objects_of};
 
-use crate::numbers::{CONSTANT_BUFFER, INDIRECT_ARGUMENTS, passes_end};
+use crate::numbers::passes_end;
 use d3d_resources::has_bit;
 use d3d_state::Objects;
 use dx_types::Refusal;
-
-const LAST_CONSTANT_SLOT: u32 = 13;
-
-const LAST_SRV_SLOT: u32 = 15;
-
-const LAST_UAV_SLOT: u32 = 7;
+use dx_types::limits::{CONSTANT_BUFFER, CONSTANT_SLOTS, INDIRECT_ARGUMENTS, SRV_SLOTS, UAV_SLOTS};
 
 /// The bytes of a predicate's word.
 const WORD_BYTES: u64 = 4;
@@ -24,7 +19,7 @@ const WORD_BYTES: u64 = 4;
 pub(crate) fn constant_refusal(objects: &Objects, slot: u32, res: u32) -> Option<Refusal>
     ensures { (past : Past) → result ≡ refusal_of (objects_of objects.now) past (calls.SetConstant slot res) }
 {
-    if slot > LAST_CONSTANT_SLOT {
+    if slot as usize >= CONSTANT_SLOTS {
         return Some(Refusal::OutOfRange);
     }
     if res == 0 {
@@ -41,7 +36,7 @@ pub(crate) fn constant_refusal(objects: &Objects, slot: u32, res: u32) -> Option
 pub(crate) fn srv_refusal(objects: &Objects, slot: u32, view: u32) -> Option<Refusal>
     ensures { (past : Past) → result ≡ refusal_of (objects_of objects.now) past (calls.SetSrv slot view) }
 {
-    if slot > LAST_SRV_SLOT {
+    if slot as usize >= SRV_SLOTS {
         return Some(Refusal::OutOfRange);
     }
     if view == 0 {
@@ -58,7 +53,7 @@ pub(crate) fn srv_refusal(objects: &Objects, slot: u32, view: u32) -> Option<Ref
 pub(crate) fn uav_refusal(objects: &Objects, slot: u32, view: u32) -> Option<Refusal>
     ensures { (past : Past) → result ≡ refusal_of (objects_of objects.now) past (calls.SetUav slot view) }
 {
-    if slot > LAST_UAV_SLOT {
+    if slot as usize >= UAV_SLOTS {
         return Some(Refusal::OutOfRange);
     }
     if view == 0 {

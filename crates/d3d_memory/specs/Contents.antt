@@ -1,6 +1,7 @@
 -- The bytes of the live buffers, by their ids.
 use Rattle.std.specs.Prelude.{ℕ, ◌+◌, ◌≤◌, List, [], length, Option, None, Some}
 use Rattle.std.specs.Coded.{Coded, coded_ℕ, coded_list}
+use Rattle.dx_types.specs.declared.limits.TheConstants.{MAX_BUFFER_SIZE}
 use Rattle.d3d_model.specs.IdMap as ids
 use Rattle.d3d_model.specs.IdMap.{IdMap}
 use Rattle.d3d_model.specs.Regions.{put, filled, slice}
@@ -18,7 +19,7 @@ bytes_at m id = bytes_if (ids.get m id)
 
 -- no buffer has more than 16,777,216 bytes
 abbrev pub AreShort : Contents → Type 0
-AreShort m = (id : ℕ) → length (bytes_at m id) ≤ 16777216
+AreShort m = (id : ℕ) → length (bytes_at m id) ≤ MAX_BUFFER_SIZE
 
 abbrev pub changed_if : Option (List ℕ) → (List ℕ → List ℕ) → Contents → ℕ → Contents
 changed_if None f m id = m

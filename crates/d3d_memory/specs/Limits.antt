@@ -1,8 +1,9 @@
 -- How large the memory may be, so that a dispatch can be counted and its parts be bound.
 use Rattle.std.specs.Prelude.{ℕ, ◌≤◌, ◌^◌, length}
+use Rattle.dx_types.specs.declared.limits.TheConstants.{MAX_BUFFER_SIZE}
 use Rattle.d3d_model.specs.D3dState.{Memory, bytes_of}
 
 -- no buffer has more than 16,777,216 bytes, and at most 2 ^ 63 invocations ran
 pub record InLimits (m : Memory) : Type 0 where
-  pub bytes : (id : ℕ) → length (bytes_of m id) ≤ 16777216
+  pub bytes : (id : ℕ) → length (bytes_of m id) ≤ MAX_BUFFER_SIZE
   pub ran : m.ran ≤ 2 ^ 63

@@ -4,6 +4,7 @@ ghost use Rattle.d3d_model.specs.D3dState.{bindings_of};
 ghost use Rattle.d3d_state.specs.Meaning.{objects_of};
 ghost use Rattle.d3d_memory.specs.Limits.{InLimits};
 ghost use Rattle.d3d_memory.specs.Shown.{constant_words, part_one, srv_words, uav_around, uav_words, with_constants, with_reads, with_writes};
+ghost use Rattle.dx_types.specs.declared.limits.TheConstants.{CONSTANT_SLOTS, SRV_SLOTS, UAV_SLOTS};
 
 use crate::Memory;
 use crate::shown::{constant_shown, shown_part, srv_shown, uav_shown};
@@ -21,7 +22,7 @@ pub(crate) fn bind_constants<'a>(
     declared: &[Declared],
 )
     requires limit { InLimits memory.now }
-    requires slots { length slots.old.words.constants ≡ 14 }
+    requires slots { length slots.old.words.constants ≡ CONSTANT_SLOTS }
     ensures { let o = objects_of objects.now in
         slots.new ≡ with_constants (constant_words o memory.now (bindings_of o 0) declared.now) slots.old }
 {
@@ -40,7 +41,7 @@ pub(crate) fn bind_reads<'a>(
     declared: &[Declared],
 )
     requires limit { InLimits memory.now }
-    requires slots { length slots.old.words.reads ≡ 16 }
+    requires slots { length slots.old.words.reads ≡ SRV_SLOTS }
     ensures { let o = objects_of objects.now in
         slots.new ≡ with_reads (srv_words memory.now (bindings_of o 0) declared.now) slots.old }
 {
@@ -66,7 +67,7 @@ fn part_copy(memory: &Memory, shown: Option<ResRange>) -> Result<Option<Whole>, 
 
 /// Binds a part, or empties the slot.
 fn put(slots: &mut Slots<'_>, slot: usize, part: Option<Whole>)
-    requires { slot < 8 }
+    requires { slot < UAV_SLOTS }
     ensures { slots.new ≡ with_write slot part slots.old }
 {
     match part {
@@ -85,8 +86,8 @@ pub(crate) fn bind_writes(
     declared: &[Declared],
 ) -> Result<(), AllocError>
     requires limit { InLimits memory.now }
-    requires slots { length slots.old.words.writes ≡ 8 }
-    requires parts { length slots.old.around ≡ 8 }
+    requires slots { length slots.old.words.writes ≡ UAV_SLOTS }
+    requires parts { length slots.old.around ≡ UAV_SLOTS }
     ensures { let b = bindings_of (objects_of objects.now) 0 in
         OnOk result (slots.new ≡ with_writes (uav_words memory.now b declared.now) (uav_around b declared.now) slots.old) }
 {

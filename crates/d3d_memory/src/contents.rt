@@ -9,13 +9,11 @@ ghost use Rattle.d3d_memory.specs.Contents.{AreShort, bytes_at, changed, copied,
 use crate::clear::clear;
 use crate::regions::{put, put_own, within, zero};
 use dx_types::ViewShape;
+use dx_types::limits::MAX_BUFFER_SIZE;
 use std::alloc::{AllocError, Global};
 use std::collections::BTreeMap;
 use std::marker::Model;
 use std::mem;
-
-/// The most bytes that a buffer of an accepted log has.
-const LONGEST: usize = 16_777_216;
 
 /// A place in a buffer.
 #[derive(Clone, Copy)]
@@ -169,9 +167,11 @@ impl Contents {
 }
 
 fn all_short(buffers: &BTreeMap<u32, Vec<u8>>) -> bool
-    ensures { result ≡ list_all (λ v. nat_le (vec_len v) 16777216) (values buffers.now) }
+    ensures { result ≡ list_all (λ v. nat_le (vec_len v) MAX_BUFFER_SIZE) (values buffers.now) }
 {
-    buffers.values().all(|bytes| bytes.len() <= LONGEST)
+    buffers
+        .values()
+        .all(|bytes| bytes.len() as u64 <= MAX_BUFFER_SIZE)
 }
 
 // So many bytes, of which the first are these where they fit, and the rest 0.

@@ -8,12 +8,14 @@ ghost use Rattle.d3d_state.specs.Meaning.{objects_of};
 ghost use Rattle.d3d_memory.specs.Limits.{InLimits};
 ghost use Rattle.d3d_memory.specs.Ran.{ran_by};
 ghost use Rattle.d3d_memory.specs.Shown.{around_one, stored_one, uav_around};
+ghost use Rattle.dx_types.specs.declared.limits.TheConstants.{MAX_INVOCATIONS};
 
 use crate::Memory;
 use crate::bind::{bind_constants, bind_reads, bind_writes};
 use crate::shown::uav_shown;
 use d3d_state::Objects;
 use dx_types::ResRange;
+use dx_types::limits::UAV_SLOTS;
 use shader_eval::{Frame, run_groups};
 use shader_model::{Declared, Shader};
 use shader_slots::{Slots, Whole};
@@ -22,7 +24,7 @@ use std::alloc::AllocError;
 /// What a dispatch left: the parts that it could write, by slot, and how many invocations ran.
 #[derive(Drop)]
 struct Ran {
-    parts: [Option<Whole>; 8],
+    parts: [Option<Whole>; UAV_SLOTS],
     count: u64,
 }
 
@@ -38,7 +40,7 @@ fn run_shader(
         map words_bound ran.parts ≡ (run_by (program_of shader.now) groups (slots_seen o memory.now (bindings_of o 0) shader.now.declared)).writes) }
     ensures around { IfOk result (λ ran. map around_bound ran.parts ≡ uav_around (bindings_of (objects_of objects.now) 0) shader.now.declared) }
     ensures count { IfOk result (λ ran. ran.count ≡ count_of (program_of shader.now) groups) }
-    ensures limit { IfOk result (λ ran. ran.count ≤ 16777216) }
+    ensures limit { IfOk result (λ ran. ran.count ≤ MAX_INVOCATIONS) }
 {
     let mut frame = Frame::new(memory.alloc(), shader)?;
     let mut slots = Slots::new();
@@ -53,8 +55,8 @@ fn run_shader(
 }
 
 /// Takes the part of a slot out.
-fn take_part(parts: &mut [Option<Whole>; 8], slot: usize) -> Option<Whole>
-    requires { slot < 8 }
+fn take_part(parts: &mut [Option<Whole>; UAV_SLOTS], slot: usize) -> Option<Whole>
+    requires { slot < UAV_SLOTS }
     ensures part { result ≡ slice_index_or parts.old slot None }
     ensures rest { parts.new ≡ slice_set parts.old slot None }
 {
@@ -79,7 +81,7 @@ fn store(
     memory: &mut Memory,
     objects: &Objects,
     declared: &[Declared],
-    mut parts: [Option<Whole>; 8],
+    mut parts: [Option<Whole>; UAV_SLOTS],
 )
     requires { map around_bound parts ≡ uav_around (bindings_of (objects_of objects.now) 0) declared.now }
     ensures { memory.new ≡ stored memory.old (uavs_shown (bindings_of (objects_of objects.now) 0) declared.now) (map words_bound parts) }

@@ -17,6 +17,3 @@ pub use answers::answer;
 pub use effects::accept;
 pub use laws::logs_stay_in_limits;
 pub use memory::Memory;
-
-#[cfg(test)]
-mod tests;

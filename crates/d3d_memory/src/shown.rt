@@ -9,6 +9,7 @@ ghost use Rattle.d3d_state.specs.Meaning.{objects_of};
 ghost use Rattle.d3d_views.specs.Limits.{EndFits};
 ghost use Rattle.d3d_memory.specs.Limits.{InLimits};
 ghost use Rattle.d3d_memory.specs.Shown.{words_one};
+ghost use Rattle.dx_types.specs.declared.limits.TheConstants.{CONSTANT_SLOTS, MAX_BUFFER_SIZE, SRV_SLOTS, UAV_SLOTS};
 
 use crate::Memory;
 use crate::regions::within;
@@ -88,7 +89,7 @@ pub(crate) fn constant_shown(
     declared: &[Declared],
     slot: usize,
 ) -> Option<ResRange>
-    requires { slot < 14 }
+    requires { slot < CONSTANT_SLOTS }
     ensures { let o = objects_of objects.now in
         result ≡ slice_index_or (constants_shown o (bindings_of o 0) declared.now) slot None }
 {
@@ -99,7 +100,7 @@ pub(crate) fn constant_shown(
 
 /// What a shader resource slot, from 0 to 15, shows to a shader with these declarations.
 pub(crate) fn srv_shown(objects: &Objects, declared: &[Declared], slot: usize) -> Option<ResRange>
-    requires { slot < 16 }
+    requires { slot < SRV_SLOTS }
     ensures { result ≡ slice_index_or (srvs_shown (bindings_of (objects_of objects.now) 0) declared.now) slot None }
 {
     objects.bindings().has_all_slots();
@@ -109,7 +110,7 @@ pub(crate) fn srv_shown(objects: &Objects, declared: &[Declared], slot: usize) -
 
 /// What an unordered access slot, from 0 to 7, shows to a shader with these declarations.
 pub(crate) fn uav_shown(objects: &Objects, declared: &[Declared], slot: usize) -> Option<ResRange>
-    requires { slot < 8 }
+    requires { slot < UAV_SLOTS }
     ensures { result ≡ slice_index_or (uavs_shown (bindings_of (objects_of objects.now) 0) declared.now) slot None }
 {
     objects.bindings().has_all_slots();
@@ -132,7 +133,7 @@ fn range_part<'a>(memory: &'a Memory, range: &ResRange) -> &'a [u8]
     requires { InLimits memory.now }
     ensures words { words_of result.now ≡ bytes_as_words (read memory.now range.now) }
     ensures whole { length result.now % 4 ≡ 0 }
-    ensures limit { length result.now ≤ 16777216 }
+    ensures limit { length result.now ≤ MAX_BUFFER_SIZE }
 {
     let len = range.to.saturating_sub(range.from);
     whole_words(memory.bytes(range.res), range.from as usize, len as usize)
@@ -143,7 +144,7 @@ pub(crate) fn shown_part<'a>(memory: &'a Memory, shown: Option<ResRange>) -> &'a
     requires { InLimits memory.now }
     ensures words { words_of result.now ≡ words_one memory.now shown }
     ensures whole { length result.now % 4 ≡ 0 }
-    ensures limit { length result.now ≤ 16777216 }
+    ensures limit { length result.now ≤ MAX_BUFFER_SIZE }
 {
     match shown {
         Some(range) => range_part(memory, &range),

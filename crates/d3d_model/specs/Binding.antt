@@ -4,6 +4,7 @@ use Rattle.std.specs.List.{list_any, filter_map}
 use Rattle.std.specs.Option.{option_map}
 use Rattle.dx_types.specs.declared.shape.ViewShape.{ViewShape}
 use Rattle.dx_types.specs.declared.range.ResRange.{ResRange}
+use Rattle.dx_types.specs.declared.limits.TheConstants.{CONSTANT_SLOTS, MAX_CONSTANT_SIZE, SRV_SLOTS, UAV_SLOTS}
 use Rattle.d3d_model.specs.View.{view_range}
 
 -- a view with its shape: while it is set it can't be destroyed
@@ -27,13 +28,13 @@ pub record Bindings : Type 0 where
   pub predicate : Predicate
 
 abbrev pub default_bindings : Bindings
-default_bindings = record { shader = 0; constants = replicate 14 None; srvs = replicate 16 None; uavs = replicate 8 None; predicate = Never }
+default_bindings = record { shader = 0; constants = replicate CONSTANT_SLOTS None; srvs = replicate SRV_SLOTS None; uavs = replicate UAV_SLOTS None; predicate = Never }
 
 -- ---- what is set
 
 -- the most that a constant slot shows of a buffer
 abbrev pub constant_range : ℕ → Option ResRange
-constant_range res = if res == 0 then None else Some (record { res = res; from = 0; to = 65536 })
+constant_range res = if res == 0 then None else Some (record { res = res; from = 0; to = MAX_CONSTANT_SIZE })
 
 -- a slot with a view of this buffer
 abbrev pub is_view_of : ℕ → Option BoundView → Bool

@@ -5,6 +5,7 @@ use Rattle.dx_types.specs.declared.refusal.Refusal.{Refusal}
 use Rattle.dx_types.specs.declared.refusal.Refusal.TheVariants.{UnknownId, IdInUse, BadUsage, BadBind, BadSize, OutOfRange, SameSubresource, BadFormat, NotMappable, InUse, FirstMapNotDiscard, BadShader, TooManyGroups, TooMuchMemory, TooManyDynamic, QueryState, WrongContext, UnknownList}
 use Rattle.dx_types.specs.declared.shape.Shape.{Shape}
 use Rattle.dx_types.specs.declared.shape.ViewShape.{ViewShape}
+use Rattle.dx_types.specs.declared.limits.TheConstants.{CONSTANT_BUFFER, CONSTANT_SLOTS, DEFERRED_CONTEXTS, INDIRECT_ARGUMENTS, KNOWN_BITS, MAX_BUFFER_SIZE, MAX_CONSTANT_SIZE, MAX_DYNAMIC_OF_CLASS, MAX_DYNAMIC_SIZE, MAX_LIST_CALLS, MAX_LIVE_BYTES, MAX_STRIDE, MIN_STRIDE, RAW_VIEWS, SHADER_RESOURCE, SRV_SLOTS, STRUCTURED, UAV_SLOTS, UNORDERED_ACCESS}
 use Rattle.call_log.specs.Call as calls
 use Rattle.call_log.specs.Call.{Call, Issued}
 use Rattle.d3d_model.specs.IdMap as ids
@@ -43,8 +44,8 @@ place_of _ = OnEach
 abbrev pub is_wrong_at : Place → ℕ → Bool
 is_wrong_at OnDevice x = not (x == 0)
 is_wrong_at OnImmediate x = not (x == 0)
-is_wrong_at OnEach x = nat_lt 16 x
-is_wrong_at OnDeferred x = (x == 0) || nat_lt 16 x
+is_wrong_at OnEach x = nat_lt DEFERRED_CONTEXTS x
+is_wrong_at OnDeferred x = (x == 0) || nat_lt DEFERRED_CONTEXTS x
 
 -- ---- the tests
 
@@ -99,26 +100,26 @@ abbrev pub has_bytes : List ℕ → Bool
 has_bytes bytes = nat_lt 0 (length bytes)
 
 abbrev pub bad_stride : ℕ → ℕ → Bool
-bad_stride size stride = not (stride % 4 == 0) || nat_lt stride 4 || nat_lt 2048 stride || not (size % stride == 0)
+bad_stride size stride = not (stride % 4 == 0) || nat_lt stride MIN_STRIDE || nat_lt MAX_STRIDE stride || not (size % stride == 0)
 
 abbrev pub buffer_checks : Objects → ℕ → ℕ → ℕ → ℕ → ℕ → ℕ → List ℕ → List Check
 buffer_checks o id size usage bind misc stride bytes =
     (not (is_id id), OutOfRange)
     ∷ (is_live_buffer o id, IdInUse)
     ∷ (nat_lt 3 usage || ((usage == 1) && not (has_bytes bytes)), BadUsage)
-    ∷ ((size == 0) || not (size % 4 == 0) || nat_lt 16777216 size || ((usage == 2) && nat_lt 4194304 size), BadSize)
+    ∷ ((size == 0) || not (size % 4 == 0) || nat_lt MAX_BUFFER_SIZE size || ((usage == 2) && nat_lt MAX_DYNAMIC_SIZE size), BadSize)
     ∷ (has_bytes bytes && not (length bytes == size), BadSize)
-    ∷ (has bind 1 && (not (size % 16 == 0) || nat_lt 65536 size), BadSize)
-    ∷ (if has misc 2 then bad_stride size stride else not (stride == 0), BadSize)
-    ∷ (nat_lt 7 bind || nat_lt 7 misc, BadBind)
-    ∷ (has bind 1 && not (bind == 1), BadBind)
+    ∷ (has bind CONSTANT_BUFFER && (not (size % 16 == 0) || nat_lt MAX_CONSTANT_SIZE size), BadSize)
+    ∷ (if has misc STRUCTURED then bad_stride size stride else not (stride == 0), BadSize)
+    ∷ (nat_lt KNOWN_BITS bind || nat_lt KNOWN_BITS misc, BadBind)
+    ∷ (has bind CONSTANT_BUFFER && not (bind == CONSTANT_BUFFER), BadBind)
     ∷ ((usage == 3) && not (bind == 0), BadBind)
-    ∷ ((usage == 2) && ((bind == 0) || has bind 4), BadBind)
-    ∷ ((usage == 1) && has bind 4, BadBind)
-    ∷ (has misc 1 && has misc 2, BadBind)
-    ∷ ((has misc 1 || has misc 2) && not (has bind 2 || has bind 4), BadBind)
-    ∷ (nat_lt 268435456 (live_bytes o.buffers + size), TooMuchMemory)
-    ∷ ((usage == 2) && nat_le 32 (live_dynamic o.buffers (class_of size)), TooManyDynamic)
+    ∷ ((usage == 2) && ((bind == 0) || has bind UNORDERED_ACCESS), BadBind)
+    ∷ ((usage == 1) && has bind UNORDERED_ACCESS, BadBind)
+    ∷ (has misc RAW_VIEWS && has misc STRUCTURED, BadBind)
+    ∷ ((has misc RAW_VIEWS || has misc STRUCTURED) && not (has bind SHADER_RESOURCE || has bind UNORDERED_ACCESS), BadBind)
+    ∷ (nat_lt MAX_LIVE_BYTES (live_bytes o.buffers + size), TooMuchMemory)
+    ∷ ((usage == 2) && nat_le MAX_DYNAMIC_OF_CLASS (live_dynamic o.buffers (class_of size)), TooManyDynamic)
     ∷ []
 
 -- ---- views
@@ -210,7 +211,7 @@ predicate_checks o kind id offset =
     ∷ []
     else if kind == 2 then
     (not (is_live_buffer o id), UnknownId)
-    ∷ (not (buffer_is o id (λ s. has s.misc 4)), BadBind)
+    ∷ (not (buffer_is o id (λ s. has s.misc INDIRECT_ARGUMENTS)), BadBind)
     ∷ (not (offset % 4 == 0) || passes_end o id offset 4, OutOfRange)
     ∷ []
     else []
@@ -262,17 +263,17 @@ call_checks o past x (calls.Query id sort) =
 call_checks o past x (calls.Destroy class id) = destroy_checks o class id
 call_checks o past x (calls.SetShader id) = (is_named id && not (is_live_shader o id), UnknownId) ∷ []
 call_checks o past x (calls.SetConstant slot res) =
-    (nat_lt 13 slot, OutOfRange)
+    (nat_le CONSTANT_SLOTS slot, OutOfRange)
     ∷ (is_named res && not (is_live_buffer o res), UnknownId)
-    ∷ (is_named res && not (buffer_is o res (λ s. has s.bind 1)), BadBind)
+    ∷ (is_named res && not (buffer_is o res (λ s. has s.bind CONSTANT_BUFFER)), BadBind)
     ∷ []
 call_checks o past x (calls.SetSrv slot view) =
-    (nat_lt 15 slot, OutOfRange)
+    (nat_le SRV_SLOTS slot, OutOfRange)
     ∷ (is_named view && not (is_live_view o view), UnknownId)
     ∷ (is_named view && is_writable o view, BadBind)
     ∷ []
 call_checks o past x (calls.SetUav slot view) =
-    (nat_lt 7 slot, OutOfRange)
+    (nat_le UAV_SLOTS slot, OutOfRange)
     ∷ (is_named view && not (is_live_view o view), UnknownId)
     ∷ (is_named view && not (is_writable o view), BadBind)
     ∷ []
@@ -283,7 +284,7 @@ call_checks o past x (calls.Dispatch gx gy gz) =
     ∷ []
 call_checks o past x (calls.DispatchIndirect res offset) =
     (not (is_live_buffer o res), UnknownId)
-    ∷ (not (buffer_is o res (λ s. has s.misc 4)), BadBind)
+    ∷ (not (buffer_is o res (λ s. has s.misc INDIRECT_ARGUMENTS)), BadBind)
     ∷ (not (offset % 4 == 0) || passes_end o res offset 12, OutOfRange)
     ∷ (not (has_shader o x), BadShader)
     ∷ []
@@ -338,7 +339,7 @@ call_checks o past x (calls.Draw kind body) = []
 
 -- the 65,537th call of an open list; to finish a list is no call of it
 abbrev pub is_too_long : Objects → ℕ → Place → Bool
-is_too_long o x OnEach = not (x == 0) && nat_le 65536 (length (context_of o x).recorded)
+is_too_long o x OnEach = not (x == 0) && nat_le MAX_LIST_CALLS (length (context_of o x).recorded)
 is_too_long o x OnDevice = false
 is_too_long o x OnImmediate = false
 is_too_long o x OnDeferred = false

@@ -8,6 +8,7 @@ use Rattle.dx_types.specs.declared.range.Span.{Span}
 use Rattle.dx_types.specs.declared.range.ResRange.{ResRange}
 use Rattle.dx_types.specs.declared.shape.Form.{Form}
 use Rattle.dx_types.specs.declared.shape.Form.TheVariants.{Raw, Structured, Typed}
+use Rattle.dx_types.specs.declared.limits.TheConstants.{RAW_VIEWS, SHADER_RESOURCE, STRUCTURED, UNORDERED_ACCESS}
 use Rattle.d3d_model.specs.Check.{Check, first_failed, has}
 
 -- the form of a number from 0 to 2
@@ -27,13 +28,13 @@ unit_of Typed stride components = 4 * components
 
 -- the buffer was not made for views of this form
 abbrev pub lacks_form : Shape → Form → Bool
-lacks_form s Raw = not (has s.misc 1)
-lacks_form s Structured = not (has s.misc 2)
-lacks_form s Typed = has s.misc 2
+lacks_form s Raw = not (has s.misc RAW_VIEWS)
+lacks_form s Structured = not (has s.misc STRUCTURED)
+lacks_form s Typed = has s.misc STRUCTURED
 
 -- what the view's kind asks of the buffer's bind bits
 abbrev pub lacks_bind : Shape → Bool → Bool
-lacks_bind s writable = if writable then not (has s.bind 4) else not (has s.bind 2)
+lacks_bind s writable = if writable then not (has s.bind UNORDERED_ACCESS) else not (has s.bind SHADER_RESOURCE)
 
 abbrev pub view_end : ViewShape → ℕ
 view_end v = (v.first + v.count) * v.unit

@@ -5,6 +5,7 @@ ghost use Rattle.call_log.specs.Call.{Issued};
 ghost use Rattle.d3d_model.specs.IdMap.{get};
 ghost use Rattle.d3d_model.specs.Resource.{live_bytes, live_dynamic};
 ghost use Rattle.d3d_model.specs.InOrder.{State, verdict_in, after_call, after_calls};
+ghost use Rattle.dx_types.specs.declared.limits.TheConstants.{MAX_DYNAMIC_OF_CLASS, MAX_LIVE_BYTES};
 
 /// A call that is refused changes nothing.
 pub fn refused_calls_leave_the_state()
@@ -20,6 +21,6 @@ pub fn live_buffers_have_their_bytes()
 /// After each call, the sizes of all live buffers are at most 268,435,456 together, and at most 32 dynamic buffers of a
 /// class are live.
 pub fn live_buffers_are_in_limits()
-    ensures bytes { (log : List Issued) (n : ℕ) → live_bytes (after_calls log n).objects.buffers ≤ 268435456 }
-    ensures dynamic { (log : List Issued) (n class : ℕ) → live_dynamic (after_calls log n).objects.buffers class ≤ 32 }
+    ensures bytes { (log : List Issued) (n : ℕ) → live_bytes (after_calls log n).objects.buffers ≤ MAX_LIVE_BYTES }
+    ensures dynamic { (log : List Issued) (n class : ℕ) → live_dynamic (after_calls log n).objects.buffers class ≤ MAX_DYNAMIC_OF_CLASS }
 {}

@@ -11,6 +11,3 @@ mod step;
 pub use end::PlanEnd;
 pub use make::make_plan;
 pub use plan::{Plan, Verdict};
-
-#[cfg(test)]
-mod tests;

@@ -7,9 +7,7 @@ ghost use Rattle.d3d_plan.specs.Ends.{FoundFirst, UnplannedAt, asks};
 use crate::PlanEnd;
 use call_log::{Call, Item, Log};
 use dx_types::CallNo;
-
-/// How many deferred contexts there are, numbered from 1.
-const DEFERRED_CONTEXTS: u16 = 16;
+use dx_types::limits::DEFERRED_CONTEXTS;
 
 /// What a scan of a log looks for: a draw, or a call that is not built yet.
 #[derive(Clone, Copy, Debug, PartialEq, Eq)]

@@ -6,8 +6,3 @@ mod run;
 
 pub use machine::Machine;
 pub use run::reference;
-
-#[cfg(test)]
-mod dispatch_tests;
-#[cfg(test)]
-mod tests;

@@ -1,15 +1,14 @@
 ghost use Rattle.std.specs.Prelude.{◌≡◌, ℕ, ◌+◌, ◌<◌, ◌≤◌, slice_index};
 ghost use Rattle.d3d_model.specs.Resource.{class_of, is_dynamic, counts_as};
+ghost use Rattle.dx_types.specs.declared.limits.TheConstants.{MAX_DYNAMIC_OF_CLASS};
 
+use dx_types::limits::CLASSES;
 use dx_types::{Shape, Usage};
-
-/// How many classes of blocks there are: those of class `c` have 256 × 4^c bytes.
-pub(crate) const CLASSES: usize = 8;
 
 /// The least class whose blocks hold this many bytes, and the greatest for what none holds.
 pub(crate) fn class_of(size: u64) -> usize
     ensures value { result ≡ class_of size }
-    ensures in_range { result < 8 }
+    ensures in_range { result < CLASSES }
 {
     match size {
         0..=256 => 0,
@@ -31,8 +30,8 @@ pub(crate) fn is_dynamic(shape: &Shape) -> bool
 
 /// One more live buffer of this shape.
 pub(crate) fn count_in(dynamic: &mut [u32; CLASSES], shape: &Shape)
-    requires { (class : ℕ) → class < 8 → slice_index dynamic.old class ≤ 32 }
-    ensures { (class : ℕ) → class < 8
+    requires { (class : ℕ) → class < CLASSES → slice_index dynamic.old class ≤ MAX_DYNAMIC_OF_CLASS }
+    ensures { (class : ℕ) → class < CLASSES
         → slice_index dynamic.new class ≡ slice_index dynamic.old class + counts_as class shape.now }
 {
     if is_dynamic(shape) {
@@ -42,8 +41,8 @@ pub(crate) fn count_in(dynamic: &mut [u32; CLASSES], shape: &Shape)
 
 /// One live buffer of this shape less.
 pub(crate) fn count_out(dynamic: &mut [u32; CLASSES], shape: &Shape)
-    requires { (class : ℕ) → class < 8 → counts_as class shape.now ≤ slice_index dynamic.old class }
-    ensures { (class : ℕ) → class < 8
+    requires { (class : ℕ) → class < CLASSES → counts_as class shape.now ≤ slice_index dynamic.old class }
+    ensures { (class : ℕ) → class < CLASSES
         → slice_index dynamic.new class + counts_as class shape.now ≡ slice_index dynamic.old class }
 {
     if is_dynamic(shape) {

@@ -11,6 +11,3 @@ pub use end::TableEnd;
 pub use laws::creations_are_checked_in_order;
 pub use refusals::{has_bit, is_id};
 pub use table::Table;
-
-#[cfg(test)]
-mod tests;

@@ -4,28 +4,11 @@ ghost use Rattle.d3d_model.specs.Verdict.{bad_stride};
 ghost use Rattle.d3d_resources.specs.Creation.{is_wrong_length, is_wrong_constant, is_wrong_stride, has_bad_size, has_bad_bits, has_bad_usage};
 
 use crate::classes::is_dynamic;
+use dx_types::limits::{
+    CONSTANT_BUFFER, KNOWN_BITS, MAX_BUFFER_SIZE, MAX_CONSTANT_SIZE, MAX_DYNAMIC_SIZE, MAX_ID,
+    MAX_STRIDE, MIN_STRIDE, RAW_VIEWS, SHADER_RESOURCE, STRUCTURED, UNORDERED_ACCESS,
+};
 use dx_types::{Shape, Usage};
-
-const CONSTANT_BUFFER: u32 = 1;
-
-const SHADER_RESOURCE: u32 = 2;
-
-const UNORDERED_ACCESS: u32 = 4;
-
-const RAW_VIEWS: u32 = 1;
-
-const STRUCTURED: u32 = 2;
-
-/// All bits that are known, of `bind` and of `misc`.
-const KNOWN_BITS: u32 = 7;
-
-const MAX_SIZE: u64 = 16_777_216;
-
-const MAX_DYNAMIC_SIZE: u64 = 4_194_304;
-
-const MAX_CONSTANT_SIZE: u64 = 65_536;
-
-const MAX_STRIDE: u32 = 2_048;
 
 /// Whether the bit of this value is set.
 pub fn has_bit(bits: u32, bit: u32) -> bool
@@ -38,14 +21,17 @@ pub fn has_bit(bits: u32, bit: u32) -> bool
 pub fn is_id(id: u32) -> bool
     ensures { result ≡ is_id id }
 {
-    0 < id && id < 65_536
+    0 < id && id <= MAX_ID
 }
 
 fn is_wrong_length(shape: &Shape) -> bool
     ensures { result ≡ is_wrong_length shape.now }
 {
     let size = shape.size;
-    size == 0 || size % 4 != 0 || size > MAX_SIZE || (is_dynamic(shape) && size > MAX_DYNAMIC_SIZE)
+    size == 0
+        || size % 4 != 0
+        || size > MAX_BUFFER_SIZE
+        || (is_dynamic(shape) && size > MAX_DYNAMIC_SIZE)
 }
 
 fn is_wrong_constant(shape: &Shape) -> bool
@@ -58,7 +44,7 @@ fn is_wrong_constant(shape: &Shape) -> bool
 fn is_bad_stride(size: u64, stride: u32) -> bool
     ensures { result ≡ bad_stride size stride }
 {
-    stride % 4 != 0 || stride < 4 || stride > MAX_STRIDE || size % u64::from(stride) != 0
+    stride % 4 != 0 || stride < MIN_STRIDE || stride > MAX_STRIDE || size % u64::from(stride) != 0
 }
 
 fn is_wrong_stride(shape: &Shape) -> bool

@@ -7,18 +7,13 @@ ghost use Rattle.d3d_resources.specs.Creation.{table_checks};
 ghost use Rattle.d3d_resources.specs.Outcome.{refusal_of};
 
 use crate::TableEnd;
-use crate::classes::{CLASSES, class_of, count_in, count_out, is_dynamic};
+use crate::classes::{class_of, count_in, count_out, is_dynamic};
 use crate::refusals::{has_bad_bind, has_bad_size, is_id};
+use dx_types::limits::{CLASSES, MAX_DYNAMIC_OF_CLASS, MAX_LIVE_BYTES};
 use dx_types::{Refusal, Shape};
 use std::alloc::Global;
 use std::collections::BTreeMap;
 use std::marker::Model;
-
-/// The most bytes that live buffers may have together.
-const MAX_LIVE_BYTES: u64 = 268_435_456;
-
-/// The most dynamic buffers of one class that may be live.
-const MAX_LIVE_DYNAMIC: u32 = 32;
 
 /// The shapes of the live buffers, by ids. A clause sees the map of them.
 #[derive(Drop)]
@@ -64,7 +59,7 @@ impl Table {
     /// The sizes of all live buffers together, in bytes.
     pub fn total(&self) -> u64
         ensures value { result ≡ live_bytes self.now }
-        ensures at_most { result ≤ 268435456 }
+        ensures at_most { result ≤ MAX_LIVE_BYTES }
     {
         self.total
     }
@@ -125,15 +120,15 @@ impl Table {
     }
 
     fn is_full(&self, size: u64) -> bool
-        ensures { result ≡ nat_lt 268435456 (live_bytes self.now + size) }
+        ensures { result ≡ nat_lt MAX_LIVE_BYTES (live_bytes self.now + size) }
     {
         size > MAX_LIVE_BYTES - self.total
     }
 
     fn has_too_many(&self, shape: &Shape) -> bool
         ensures { result ≡ (is_dynamic shape.now.usage
-            && nat_le 32 (live_dynamic self.now (class_of shape.now.size))) }
+            && nat_le MAX_DYNAMIC_OF_CLASS (live_dynamic self.now (class_of shape.now.size))) }
     {
-        is_dynamic(shape) && self.dynamic[class_of(shape.size)] >= MAX_LIVE_DYNAMIC
+        is_dynamic(shape) && self.dynamic[class_of(shape.size)] >= MAX_DYNAMIC_OF_CLASS
     }
 }

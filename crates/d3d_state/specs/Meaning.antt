@@ -2,6 +2,7 @@
 use Rattle.std.specs.Prelude.{ℕ, List, ◌∷◌, [], replicate}
 use Rattle.dx_types.specs.declared.shape.Shape.{Shape}
 use Rattle.dx_types.specs.declared.shape.ViewShape.{ViewShape}
+use Rattle.dx_types.specs.declared.limits.TheConstants.{DEFERRED_CONTEXTS}
 use Rattle.d3d_model.specs.IdMap as ids
 use Rattle.d3d_model.specs.Resource.{Buffers}
 use Rattle.d3d_model.specs.Binding.{Bindings}
@@ -12,7 +13,7 @@ use Rattle.d3d_state.specs.declared.objects.Objects as code
 
 -- the deferred contexts, none of which has been used
 unfoldable pub unused_contexts : List model.Context
-unused_contexts = replicate 16 model.default_context
+unused_contexts = replicate DEFERRED_CONTEXTS model.default_context
 
 -- these buffers, views, shaders and queries are live, and the immediate context has these bindings
 abbrev pub objects_from : Buffers → Views → Shaders → Queries → Bindings → model.Objects

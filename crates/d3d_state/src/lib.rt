@@ -13,6 +13,3 @@ pub use queries::Queries;
 pub use query::{Query, Sort};
 pub use shaders::{LiveShader, Shaders};
 pub use views::Views;
-
-#[cfg(test)]
-mod tests;

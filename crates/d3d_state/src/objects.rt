@@ -1,3 +1,5 @@
+ghost use Rattle.dx_types.specs.declared.limits.TheConstants.{CONSTANT_SLOTS, SRV_SLOTS, UAV_SLOTS};
+
 use crate::{LiveShader, Queries, Query, Shaders, Views};
 use d3d_resources::{Table, TableEnd};
 use d3d_views::{Bindings, BoundView, Predicate};
@@ -247,7 +249,7 @@ impl Objects {
 
     /// Sets a buffer in a constant slot, from 0 to 13; id 0 empties it.
     pub fn set_constant(&mut self, slot: u32, res: u32)
-        requires { slot < 14 }
+        requires { slot < CONSTANT_SLOTS }
         ensures { (n : ℕ) → objects_of self.new ≡ objects_after n (objects_of self.old) 0 (calls.SetConstant slot res) }
     {
         self.bindings.set_constant(slot as usize, res);
@@ -255,7 +257,7 @@ impl Objects {
 
     /// Sets a live view in a shader resource slot, from 0 to 15; id 0 empties it.
     pub fn set_srv(&mut self, slot: u32, view: u32)
-        requires { slot < 16 }
+        requires { slot < SRV_SLOTS }
         ensures { (n : ℕ) → objects_of self.new ≡ objects_after n (objects_of self.old) 0 (calls.SetSrv slot view) }
     {
         let bound = self.bound_view(view);
@@ -264,7 +266,7 @@ impl Objects {
 
     /// Sets a live view in an unordered access slot, from 0 to 7; id 0 empties it.
     pub fn set_uav(&mut self, slot: u32, view: u32)
-        requires { slot < 8 }
+        requires { slot < UAV_SLOTS }
         ensures { (n : ℕ) → objects_of self.new ≡ objects_after n (objects_of self.old) 0 (calls.SetUav slot view) }
     {
         let bound = self.bound_view(view);

@@ -7,6 +7,3 @@ mod uses;
 
 pub use ranges::Ranges;
 pub use uses::Uses;
-
-#[cfg(test)]
-mod tests;

@@ -9,25 +9,17 @@ use crate::ranges::{constant_range, push_constants, push_views, push_word, word_
 use crate::slots::{any_beside, any_constant_of, any_view, any_view_of, empty_beside};
 use crate::{BoundView, Predicate};
 use dx_types::ResRange;
+use dx_types::limits::{CONSTANT_SLOTS, SRV_SLOTS, UAV_SLOTS};
 use std::alloc::{AllocError, Global};
 use std::marker::Model;
-
-/// How many constant slots there are.
-const CONSTANTS: usize = 14;
-
-/// How many shader resource slots there are.
-const SRVS: usize = 16;
-
-/// How many unordered access slots there are.
-const UAVS: usize = 8;
 
 /// What is set on a context. A clause sees the model's bindings: lists of the slots.
 #[derive(Clone, Copy)]
 pub struct Bindings {
     shader: u32,
-    constants: [Option<ResRange>; CONSTANTS],
-    srvs: [Option<BoundView>; SRVS],
-    uavs: [Option<BoundView>; UAVS],
+    constants: [Option<ResRange>; CONSTANT_SLOTS],
+    srvs: [Option<BoundView>; SRV_SLOTS],
+    uavs: [Option<BoundView>; UAV_SLOTS],
     predicate: Predicate,
 }
 
@@ -65,9 +57,9 @@ impl Bindings {
     {
         Bindings {
             shader: 0,
-            constants: [None; CONSTANTS],
-            srvs: [None; SRVS],
-            uavs: [None; UAVS],
+            constants: [None; CONSTANT_SLOTS],
+            srvs: [None; SRV_SLOTS],
+            uavs: [None; UAV_SLOTS],
             predicate: Predicate::Never,
         }
     }
@@ -81,7 +73,7 @@ impl Bindings {
 
     /// Sets a buffer in a constant slot, from 0 to 13, by its id; 0 empties the slot.
     pub fn set_constant(&mut self, slot: usize, res: u32)
-        requires { slot < 14 }
+        requires { slot < CONSTANT_SLOTS }
         ensures { self.new ≡ model.set_constant self.old slot res }
     {
         self.constants[slot] = constant_range(res);
@@ -90,7 +82,7 @@ impl Bindings {
     /// Sets a view in a shader resource slot, from 0 to 15. A view of a buffer that is set in an unordered access slot leaves
     /// the slot empty, whatever it held.
     pub fn set_srv(&mut self, slot: usize, v: Option<BoundView>)
-        requires slot { slot < 16 }
+        requires slot { slot < SRV_SLOTS }
         requires end { EndFits v }
         ensures { self.new ≡ model.set_srv self.old slot v }
     {
@@ -100,7 +92,7 @@ impl Bindings {
     /// Sets a view in an unordered access slot, from 0 to 7. Each shader resource slot and each other unordered access slot
     /// that holds a view of the same buffer is emptied.
     pub fn set_uav(&mut self, slot: usize, v: Option<BoundView>)
-        requires slot { slot < 8 }
+        requires slot { slot < UAV_SLOTS }
         requires end { EndFits v }
         ensures { self.new ≡ model.set_uav self.old slot v }
     {
@@ -126,9 +118,9 @@ impl Bindings {
 
     /// There are 14 constant slots, 16 shader resource slots and 8 unordered access slots, set or empty.
     pub fn has_all_slots(&self)
-        ensures constants { length self.now.constants ≡ 14 }
-        ensures srvs { length self.now.srvs ≡ 16 }
-        ensures uavs { length self.now.uavs ≡ 8 }
+        ensures constants { length self.now.constants ≡ CONSTANT_SLOTS }
+        ensures srvs { length self.now.srvs ≡ SRV_SLOTS }
+        ensures uavs { length self.now.uavs ≡ UAV_SLOTS }
     {
         let _constants: &[Option<ResRange>] = &self.constants;
         let _srvs: &[Option<BoundView>] = &self.srvs;
@@ -144,7 +136,7 @@ impl Bindings {
 
     /// What a constant slot, from 0 to 13, shows: bytes 0 to 65,536 of its buffer, not yet cut to the buffer's size.
     pub fn constant(&self, slot: usize) -> Option<ResRange>
-        requires { slot < 14 }
+        requires { slot < CONSTANT_SLOTS }
         ensures { result ≡ slice_index_or self.now.constants slot None }
     {
         self.constants[slot]
@@ -152,7 +144,7 @@ impl Bindings {
 
     /// The view in a shader resource slot, from 0 to 15.
     pub fn srv(&self, slot: usize) -> Option<BoundView>
-        requires { slot < 16 }
+        requires { slot < SRV_SLOTS }
         ensures value { result ≡ slice_index_or self.now.srvs slot None }
         ensures end { EndFits result }
     {
@@ -161,7 +153,7 @@ impl Bindings {
 
     /// The view in an unordered access slot, from 0 to 7.
     pub fn uav(&self, slot: usize) -> Option<BoundView>
-        requires { slot < 8 }
+        requires { slot < UAV_SLOTS }
         ensures value { result ≡ slice_index_or self.now.uavs slot None }
         ensures end { EndFits result }
     {

@@ -15,6 +15,3 @@ pub use laws::views_are_checked_in_order;
 pub use predicate::Predicate;
 pub use ranges::view_range;
 pub use span::{lacks_bind, view_span};
-
-#[cfg(test)]
-mod tests;

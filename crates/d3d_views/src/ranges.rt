@@ -7,11 +7,9 @@ ghost use Rattle.d3d_views.specs.Limits.{EndFits, WordFits};
 ghost use Rattle.d3d_views.specs.Meaning.{meaning};
 
 use crate::{BoundView, Predicate};
+use dx_types::limits::MAX_CONSTANT_SIZE;
 use dx_types::{ResRange, ViewShape};
 use std::alloc::AllocError;
-
-/// The most that a constant slot shows of a buffer: 4,096 registers of 16 bytes.
-const CONSTANT_BYTES: u64 = 65_536;
 
 /// What a constant slot shows of a buffer, before it is cut to the buffer's size; nothing for id 0.
 pub(crate) fn constant_range(res: u32) -> Option<ResRange>
@@ -23,7 +21,7 @@ pub(crate) fn constant_range(res: u32) -> Option<ResRange>
     Some(ResRange {
         res,
         from: 0,
-        to: CONSTANT_BYTES,
+        to: MAX_CONSTANT_SIZE,
     })
 }
 

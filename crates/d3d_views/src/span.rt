@@ -2,15 +2,8 @@ ghost use Rattle.std.specs.Prelude.{◌≡◌, ◌≤◌, ◌==◌, ◌||◌, na
 ghost use Rattle.d3d_model.specs.View.{lacks_bind, lacks_form, view_end, view_span};
 ghost use Rattle.d3d_views.specs.Limits.{IsUnit};
 
+use dx_types::limits::{RAW_VIEWS, SHADER_RESOURCE, STRUCTURED, UNORDERED_ACCESS};
 use dx_types::{Form, Refusal, Shape, Span, ViewShape};
-
-const SHADER_RESOURCE: u32 = 2;
-
-const UNORDERED_ACCESS: u32 = 4;
-
-const RAW_VIEWS: u32 = 1;
-
-const STRUCTURED: u32 = 2;
 
 /// Whether the buffer wasn't made for views of this kind: for writes, or for reads.
 pub fn lacks_bind(shape: &Shape, writable: bool) -> bool

@@ -3,6 +3,7 @@ use Rattle.std.specs.Prelude.{ℕ, cond, List, map, Option, Some, None}
 use Rattle.shader_model.specs.Invocation.{Slots, words_in}
 use Rattle.shader_model.specs.Dispatch.{is_allowed, volume}
 use Rattle.std.specs.Prelude.{◌*◌}
+use Rattle.dx_types.specs.declared.limits.TheConstants.{CONSTANT_SLOTS, SRV_SLOTS, UAV_SLOTS}
 use Rattle.spirv_words.specs.Meaning.ModuleDispatch.{group_of, module_dispatched}
 use Rattle.vk_types.specs.Lists.{numbers_from}
 use Rattle.vk_types.specs.Effects.{Meaning, SlotWords}
@@ -10,9 +11,9 @@ use Rattle.vk_types.specs.Effects.{Meaning, SlotWords}
 -- the words of the 14 constant buffers, 16 resources and 8 unordered access views that a module can name
 abbrev pub slots_of : SlotWords → Slots
 slots_of s = record {
-  constants = map s.constant (numbers_from 0 14);
-  reads = map s.srv (numbers_from 0 16);
-  writes = map s.uav (numbers_from 0 8);
+  constants = map s.constant (numbers_from 0 CONSTANT_SLOTS);
+  reads = map s.srv (numbers_from 0 SRV_SLOTS);
+  writes = map s.uav (numbers_from 0 UAV_SLOTS);
 }
 
 -- the words of an unordered access view after a dispatch, as they were where it has no outcome

@@ -1,6 +1,7 @@
 -- Ranges that a command names, and that the device must hold.
 use Rattle.std.specs.Prelude.{◌≡◌, ◌-◌, ◌%◌, ◌<◌, ◌≤◌, ℕ, Bool, true, false, ◌||◌, ◌==◌, Option, Some, None}
 use Rattle.dx_types.specs.declared.range.Range.{Range}
+use Rattle.dx_types.specs.declared.limits.TheConstants.{CONSTANT_SLOTS, MAX_BUFFER_SIZE, SRV_SLOTS, UAV_SLOTS}
 use Rattle.vk_types.specs.declared.command.SlotName.{SlotName}
 use Rattle.vk_types.specs.declared.command.SlotName.TheVariants as slot
 use Rattle.vk_types.specs.declared.command.SlotRange.{SlotRange}
@@ -25,9 +26,9 @@ CanCount held (groups.Indirect at) = IsHeld held at × (size_of at ≡ 12)
 
 -- a module can name the slot
 abbrev pub IsSlot : SlotName → Type 0
-IsSlot (slot.Constant i) = i < 14
-IsSlot (slot.Srv i) = i < 16
-IsSlot (slot.Uav i) = i < 8
+IsSlot (slot.Constant i) = i < CONSTANT_SLOTS
+IsSlot (slot.Srv i) = i < SRV_SLOTS
+IsSlot (slot.Uav i) = i < UAV_SLOTS
 
 abbrev pub HasSlot : SlotRange → Type 0
 HasSlot s = IsSlot s.slot
@@ -55,7 +56,7 @@ pub record CanBind (held : Held) (s : SlotRange) : Type 0 where
   pub slot : IsSlot s.slot
   pub range : IsHeld held s.range
   pub whole : size_of s.range % 4 ≡ 0
-  pub limit : size_of s.range ≤ 16777216
+  pub limit : size_of s.range ≤ MAX_BUFFER_SIZE
 
 -- two slots have two names, and two blocks where one of them may be written
 pub record AreApart (s t : SlotRange) : Type 0 where

@@ -7,6 +7,7 @@ ghost use Rattle.device_memory.specs.Ranges.{AreApart, CanBind, HasSlot};
 ghost use Rattle.device_memory.specs.Binding.{CanLend, given, lent, returned, returned_part, taken};
 
 use crate::DeviceMemory;
+use dx_types::limits::UAV_SLOTS;
 use shader_slots::{Slots, Whole};
 use vk_types::{SlotName, SlotRange};
 
@@ -46,7 +47,11 @@ impl DeviceMemory {
     }
 
     /// Gives the bytes of the parts that a dispatch could write back to their blocks.
-    pub(crate) fn return_parts(&mut self, slots: &[SlotRange], mut parts: [Option<Whole>; 8])
+    pub(crate) fn return_parts(
+        &mut self,
+        slots: &[SlotRange],
+        mut parts: [Option<Whole>; UAV_SLOTS],
+    )
         requires { AllByRecursion HasSlot slots.now }
         ensures { self.new ≡ returned slots.now parts self.old }
     {
@@ -69,8 +74,8 @@ impl DeviceMemory {
 }
 
 /// Takes the part of a slot out.
-fn take_part(parts: &mut [Option<Whole>; 8], slot: usize) -> Option<Whole>
-    requires { slot < 8 }
+fn take_part(parts: &mut [Option<Whole>; UAV_SLOTS], slot: usize) -> Option<Whole>
+    requires { slot < UAV_SLOTS }
     ensures part { result ≡ slice_index_or parts.old slot None }
     ensures rest { parts.new ≡ slice_set parts.old slot None }
 {

@@ -12,16 +12,12 @@ ghost use Rattle.device_memory.specs.Ranges.{AreApart, CanBind};
 ghost use Rattle.device_memory.specs.Runs.{CanDispatch};
 
 use crate::DeviceMemory;
+use dx_types::limits::{MAX_GROUPS, MAX_INVOCATIONS};
 use shader_slots::Slots;
 use spirv_run::Machine;
 use spirv_words::Module;
 use std::alloc::AllocError;
 use vk_types::{Groups, SlotRange};
-
-/// The most groups along x, y or z, and the most invocations, of a dispatch that runs.
-const GROUPS: u32 = 65_535;
-
-const INVOCATIONS: u128 = 16_777_216;
 
 fn product(x: u32, y: u32, z: u32) -> u128
     ensures value { result ≡ x * y * z }
@@ -41,22 +37,22 @@ fn volume(sizes: [u32; 3]) -> u128
 /// Whether so many groups of so many invocations each are few enough. No group at all is.
 fn are_few(count: u128, each: u128) -> bool
     requires { count < 2 ^ 96 }
-    ensures { result ≡ nat_le (count * each) 16777216 }
+    ensures { result ≡ nat_le (count * each) MAX_INVOCATIONS }
 {
     if count == 0 {
         return true;
     }
-    if each > INVOCATIONS {
+    if each > u128::from(MAX_INVOCATIONS) {
         return false;
     }
-    count * each <= INVOCATIONS
+    count * each <= u128::from(MAX_INVOCATIONS)
 }
 
 /// Whether so many groups of a size run.
 fn is_allowed(groups: [u32; 3], size: [u32; 3]) -> bool
     ensures { result ≡ is_allowed groups size }
 {
-    if groups[0] > GROUPS || groups[1] > GROUPS || groups[2] > GROUPS {
+    if groups[0] > MAX_GROUPS || groups[1] > MAX_GROUPS || groups[2] > MAX_GROUPS {
         return false;
     }
     are_few(volume(groups), volume(size))

@@ -11,6 +11,3 @@ mod run;
 mod words;
 
 pub use memory::DeviceMemory;
-
-#[cfg(test)]
-mod tests;

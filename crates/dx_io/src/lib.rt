@@ -15,6 +15,3 @@ pub use memory_source::MemSource;
 pub use standard::{StdSink, StdSource};
 pub use sure::{SureSink, SureSource};
 pub use traits::{Failed, Sink, Source};
-
-#[cfg(test)]
-mod tests;

@@ -3,6 +3,7 @@
 #![tactic(auto)]
 
 mod byte_list;
+pub mod limits;
 mod numbers;
 mod range;
 mod refusal;
@@ -15,6 +16,3 @@ pub use range::{Range, ResRange, Span};
 pub use refusal::Refusal;
 pub use reply::{Reply, reply_line};
 pub use shape::{Form, Shape, Usage, ViewShape};
-
-#[cfg(test)]
-mod tests;

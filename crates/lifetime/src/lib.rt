@@ -4,6 +4,3 @@
 mod holds;
 
 pub use holds::{Holds, Mark};
-
-#[cfg(test)]
-mod tests;

@@ -1,6 +1,6 @@
 -- What holds of each buffer that is created holds of each that lives.
 use Rattle.std.proofs.Common.{◌≡◌, ℕ, zero, suc, ◌<◌, Bool, true, false, not, List, Option, Some, None, refl, sym, subst, arith}
-use Rattle.std.specs.Prelude.{◌==◌, is_some, slice_get, nat_lt, if◌then◌else◌}
+use Rattle.std.specs.Prelude.{◌==◌, is_some, slice_get, nat_lt, nat_le, if◌then◌else◌}
 use Rattle.std.proofs.lemmas.Bool.{and_parts, ltb-true, ltb-false, eqb-false}
 use Rattle.dx_types.specs.declared.refusal.Refusal.{Refusal}
 use Rattle.dx_types.specs.declared.shape.Shape.{Shape}
@@ -86,7 +86,7 @@ some_stride size stride false others e h = absurd cc
 
 made_rightly : AtCreation Made
 made_rightly o id size usage bind misc stride bytes p = record {
-  named = ltb-true 0 id (and_parts (nat_lt 0 id) (nat_lt id 65536) (not_false (is_id id) p.0)).0;
+  named = ltb-true 0 id (and_parts (nat_lt 0 id) (nat_le id 65535) (not_false (is_id id) p.0)).0;
   bytes = omega (arith, eqb-false size 0 (left_of _ _ (left_of _ _ (left_of _ _ p.1.1.1.0))));
   stride = λ e. some_stride size stride (has misc 2) _ p.1.1.1.1.1.1.0 e;
 }

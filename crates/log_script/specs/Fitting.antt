@@ -3,6 +3,7 @@ use Rattle.std.specs.Prelude.{◌≡◌, ℕ, ◌+◌, ◌==◌, ◌<◌, ◌≤
 use Rattle.std.specs.List.{AllByRecursion}
 use Rattle.dx_types.specs.declared.shape.Shape.{Shape}
 use Rattle.dx_types.specs.declared.range.ResRange.{ResRange}
+use Rattle.dx_types.specs.declared.limits.TheConstants.{MAX_CONSTANT_SIZE}
 use Rattle.call_log.specs.Call.{Call}
 use Rattle.d3d_model.specs.IdMap.{get}
 use Rattle.d3d_model.specs.View.{view_range}
@@ -28,7 +29,7 @@ ShaderLives o id = (id == 0) || is_live_shader o id ≡ true
 -- a constant slot shows as many bytes as one can, of a live buffer that has a byte. It is cut to the buffer as it is bound
 pub record ConstantLives (o : Objects) (r : ResRange) : Type 0 where
   pub starts : r.from ≡ 0
-  pub ends : r.to ≡ 65536
+  pub ends : r.to ≡ MAX_CONSTANT_SIZE
   pub shape : Shape
   pub lives : buffer_of o r.res ≡ Some shape
   pub has_byte : 0 < shape.size

@@ -5,6 +5,7 @@ use Rattle.std.specs.List.{AllByRecursion}
 use Rattle.dx_types.specs.declared.range.Range.{Range}
 use Rattle.dx_types.specs.declared.range.ResRange.{ResRange}
 use Rattle.dx_types.specs.declared.shape.Shape.{Shape}
+use Rattle.dx_types.specs.declared.limits.TheConstants.{MAX_BUFFER_SIZE}
 use Rattle.d3d_model.specs.Resource.{is_dynamic, is_staging, size_of}
 use Rattle.d3d_model.specs.D3dState.{buffer_of}
 use Rattle.d3d_model.specs.InOrder.{State}
@@ -54,7 +55,7 @@ abbrev pub PlayFits : State → ℕ → Option Shape → Play → Type 0
 PlayFits s n made (Create buffer bytes) = (buffer ≡ n) × (length bytes ≤ size_of made)
 PlayFits s n made (Discard buffer from bytes) = WriteFits s buffer (from + length bytes)
 PlayFits s n made (No_overwrite buffer from bytes) = WriteFits s buffer (from + length bytes)
-PlayFits s n made (Stage bytes target skip) = (length bytes ≤ 16777216) × ((r : Range) → target ≡ Some r → r.to ≡ r.from + length bytes)
+PlayFits s n made (Stage bytes target skip) = (length bytes ≤ MAX_BUFFER_SIZE) × ((r : Range) → target ≡ Some r → r.to ≡ r.from + length bytes)
 PlayFits s n made (Destroy buffer) = DestroysLive s buffer
 PlayFits s n made _ = ⊤
 

@@ -2,6 +2,7 @@
 use Rattle.std.specs.Prelude.{ℕ, zero, suc, List, [], ◌++◌, length, map, Option, None, Some, if◌then◌else◌}
 use Rattle.dx_types.specs.declared.shape.Shape.{Shape}
 use Rattle.dx_types.specs.declared.refusal.Refusal.{Refusal}
+use Rattle.dx_types.specs.declared.limits.TheConstants.{CONSTANT_SLOTS, SRV_SLOTS, UAV_SLOTS}
 use Rattle.call_log.specs.Call as calls
 use Rattle.call_log.specs.Call.{Call, Issued}
 use Rattle.shader_model.specs.Invocation.{Slots, words_in}
@@ -51,9 +52,9 @@ words_by (Some i) = by_kind i.call
 -- the words of all slots, as an invocation has them
 abbrev pub all_slots : SlotWords → Slots
 all_slots s = record {
-  constants = map s.constant (numbers_from 0 14);
-  reads = map s.srv (numbers_from 0 16);
-  writes = map s.uav (numbers_from 0 8);
+  constants = map s.constant (numbers_from 0 CONSTANT_SLOTS);
+  reads = map s.srv (numbers_from 0 SRV_SLOTS);
+  writes = map s.uav (numbers_from 0 UAV_SLOTS);
 }
 
 abbrev pub no_slots : Slots

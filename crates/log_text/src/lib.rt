@@ -13,6 +13,3 @@ pub use laws::one_spelling;
 pub use read::asm;
 pub use text_end::TextEnd;
 pub use write::list;
-
-#[cfg(test)]
-mod tests;

@@ -15,6 +15,7 @@ use Rattle.log_text.specs.LogText.{LogText, IsFirstBad, text_of}
 use Rattle.d3d_model.specs.ReplyText.{text, none_pending}
 use Rattle.d3d_plan.specs.Ends.{Never, IsFirst, is_draw_record, is_unbuilt_record}
 use Rattle.core_machine.specs.Unplayed.{is_unplayed_record}
+use Rattle.dx_types.specs.declared.limits.TheConstants.{MAX_INPUT}
 
 -- ---- what a command makes of its input
 
@@ -117,7 +118,7 @@ OfInput left P = (bytes : List ℕ) × WasLeft left bytes × P bytes
 abbrev pub Outcome : Command → Option (List ℕ) → Option (List ℕ) → Status → Option (List ℕ) → Type 0
 Outcome c left old Usage new = ⊥
 Outcome c left old ReadFault new = Silent old new
-Outcome c left old TooLong new = IfSome left (λ all. 67108864 < length all) × Silent old new
+Outcome c left old TooLong new = IfSome left (λ all. MAX_INPUT < length all) × Silent old new
 Outcome c left old NoMemory new = Silent old new ⊎ OfInput left (λ bytes. WritesFront c bytes old new)
 Outcome c left old Done new = OfInput left (λ bytes. WritesAll c bytes old new)
 Outcome c left old WriteFault new = OfInput left (λ bytes. WritesFront c bytes old new)
@@ -135,7 +136,7 @@ OutcomeOf (Some c) left old s new = Outcome c left old s new
 pub record Accepted (c : Command) (left : Option (List ℕ)) : Type 0 where
   pub bytes : List ℕ
   pub told : left ≡ Some bytes
-  pub short : length bytes ≤ 67108864
+  pub short : length bytes ≤ MAX_INPUT
   pub out : List ℕ
   pub answers : Answers c bytes out
 

@@ -15,11 +15,9 @@ use d3d_plan::{PlanEnd, make_plan};
 use d3d_ref::reference;
 use dx_io::{ReadEnd, Sink, Source, read_all, write_all};
 use dx_types::CallNo;
+use dx_types::limits::MAX_INPUT;
 use log_text::{TextEnd, asm, list};
 use std::alloc::Global;
-
-/// The longest input, in bytes.
-const MAX_INPUT: u64 = 67_108_864;
 
 /// Does what the words of a command line ask for, which stand here without the program's name. `replay`
 /// reads a log from the source to its end, plays it and writes the line of each reply as it comes; `ref` writes the same
@@ -84,7 +82,7 @@ fn run_command<S: Source, K: Sink>(
 
 // Writes what a command makes of an input.
 fn answer<K: Sink>(alloc: Global, command: Command, bytes: &[u8], out: &mut K) -> Status
-    requires { length bytes.now ≤ 67108864 }
+    requires { length bytes.now ≤ MAX_INPUT }
     ensures outcome { CameOf command bytes.now (K.held out.old) result (K.held out.new) }
     ensures write_fault { result ≡ Status.WriteFault → Rose (K.faults out.old) (K.faults out.new) }
     ensures write_later { K.faults out.old ≤ K.faults out.new }
@@ -98,7 +96,7 @@ fn answer<K: Sink>(alloc: Global, command: Command, bytes: &[u8], out: &mut K) -
 }
 
 fn replay_bytes<K: Sink>(alloc: Global, bytes: &[u8], out: &mut K) -> Status
-    requires { length bytes.now ≤ 67108864 }
+    requires { length bytes.now ≤ MAX_INPUT }
     ensures outcome { CameOf Command.Replay bytes.now (K.held out.old) result (K.held out.new) }
     ensures write_fault { result ≡ Status.WriteFault → Rose (K.faults out.old) (K.faults out.new) }
     ensures write_later { K.faults out.old ≤ K.faults out.new }
@@ -150,7 +148,7 @@ fn not_built(log: &Log<'_>, n: CallNo) -> Status
 }
 
 fn ref_bytes<K: Sink>(alloc: Global, bytes: &[u8], out: &mut K) -> Status
-    requires { length bytes.now ≤ 67108864 }
+    requires { length bytes.now ≤ MAX_INPUT }
     ensures outcome { CameOf Command.Ref bytes.now (K.held out.old) result (K.held out.new) }
     ensures write_fault { result ≡ Status.WriteFault → Rose (K.faults out.old) (K.faults out.new) }
     ensures write_later { K.faults out.old ≤ K.faults out.new }
@@ -176,7 +174,7 @@ fn ref_log<K: Sink>(alloc: Global, log: &Log<'_>, out: &mut K) -> Status
 }
 
 fn list_bytes<K: Sink>(alloc: Global, bytes: &[u8], out: &mut K) -> Status
-    requires { length bytes.now ≤ 67108864 }
+    requires { length bytes.now ≤ MAX_INPUT }
     ensures outcome { CameOf Command.List bytes.now (K.held out.old) result (K.held out.new) }
     ensures write_fault { result ≡ Status.WriteFault → Rose (K.faults out.old) (K.faults out.new) }
     ensures write_later { K.faults out.old ≤ K.faults out.new }
@@ -200,7 +198,7 @@ fn list_log<K: Sink>(alloc: Global, log: &Log<'_>, out: &mut K) -> Status
 }
 
 fn asm_bytes<K: Sink>(alloc: Global, text: &[u8], out: &mut K) -> Status
-    requires { length text.now ≤ 67108864 }
+    requires { length text.now ≤ MAX_INPUT }
     ensures outcome { CameOf Command.Asm text.now (K.held out.old) result (K.held out.new) }
     ensures write_fault { result ≡ Status.WriteFault → Rose (K.faults out.old) (K.faults out.new) }
     ensures write_later { K.faults out.old ≤ K.faults out.new }

@@ -82,7 +82,12 @@ fn plays(rt: &impl Abort, alloc: Global, row: &Row) -> Result<bool, Fail> {
 
 // All rows of the tables under `ref`, and at least so many of them under `replay`: the others create a query, a dynamic
 // buffer or a predicate in a buffer, or read without waiting.
-fn play(rt: &impl Abort, alloc: Global, tables: &[&[Row]], least: usize) -> Result<(), Fail> {
+pub(crate) fn play(
+    rt: &impl Abort,
+    alloc: Global,
+    tables: &[&[Row]],
+    least: usize,
+) -> Result<(), Fail> {
     let mut replayed: usize = 0;
     for rows in tables {
         for row in *rows {

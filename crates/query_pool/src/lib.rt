@@ -4,6 +4,3 @@
 mod queries;
 
 pub use queries::{Begun, Count, Ended, Queries};
-
-#[cfg(test)]
-mod tests;

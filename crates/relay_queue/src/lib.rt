@@ -8,6 +8,3 @@ mod rule;
 pub use message::{LogName, Numbered};
 pub use relay::{Relay, Sending, Taking};
 pub use rule::{Succession, Track};
-
-#[cfg(test)]
-mod tests;

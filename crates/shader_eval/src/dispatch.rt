@@ -7,16 +7,13 @@ ghost use Rattle.shader_model.specs.Dispatch.{run_all, dispatched, is_allowed, c
 ghost use Rattle.shader_eval.specs.Frames.{IsFor};
 ghost use Rattle.shader_eval.specs.Threads.{AllBelow};
 ghost use Rattle.shader_eval.specs.Walks.{row_at, plane_at, threads_of, row_of_groups, plane_of_groups, all_of};
+ghost use Rattle.dx_types.specs.declared.limits.TheConstants.{MAX_THREADS};
 
 use crate::frame::Frame;
 use crate::invocation::invoke;
+use dx_types::limits::{MAX_GROUPS, MAX_INVOCATIONS};
 use shader_model::{Ids, Shader};
 use shader_slots::Slots;
-
-/// The most groups each way, and the most invocations.
-const GROUPS: u32 = 65_535;
-
-const INVOCATIONS: u64 = 16_777_216;
 
 /// The threads of a row of a group.
 fn run_row(
@@ -28,7 +25,7 @@ fn run_row(
     slots: &mut Slots<'_>,
 )
     requires made { IsFor frame.old shader.now }
-    requires group { AllBelow 65535 group }
+    requires group { AllBelow MAX_GROUPS group }
     requires y { y < slice_index shader.now.group 1 }
     requires z { z < slice_index shader.now.group 2 }
     ensures words { slots.new.words ≡ run_all (program_of shader.now) (row_at group shader.now.group z y) slots.old.words }
@@ -50,7 +47,7 @@ fn run_row(
 /// The threads of a plane of a group.
 fn run_plane(shader: &Shader, group: [u32; 3], z: u32, frame: &mut Frame, slots: &mut Slots<'_>)
     requires made { IsFor frame.old shader.now }
-    requires group { AllBelow 65535 group }
+    requires group { AllBelow MAX_GROUPS group }
     requires z { z < slice_index shader.now.group 2 }
     ensures words { slots.new.words ≡ run_all (program_of shader.now) (plane_at group shader.now.group z) slots.old.words }
     ensures around { slots.new.around ≡ slots.old.around }
@@ -65,7 +62,7 @@ fn run_plane(shader: &Shader, group: [u32; 3], z: u32, frame: &mut Frame, slots:
 /// The threads of a group.
 fn run_group(shader: &Shader, group: [u32; 3], frame: &mut Frame, slots: &mut Slots<'_>)
     requires made { IsFor frame.old shader.now }
-    requires group { AllBelow 65535 group }
+    requires group { AllBelow MAX_GROUPS group }
     ensures words { slots.new.words ≡ run_all (program_of shader.now) (threads_of group shader.now.group) slots.old.words }
     ensures around { slots.new.around ≡ slots.old.around }
     ensures made { IsFor frame.new shader.now }
@@ -86,9 +83,9 @@ fn run_row_of_groups(
     slots: &mut Slots<'_>,
 )
     requires made { IsFor frame.old shader.now }
-    requires x { slice_index groups 0 ≤ 65535 }
-    requires y { y < 65535 }
-    requires z { z < 65535 }
+    requires x { slice_index groups 0 ≤ MAX_GROUPS }
+    requires y { y < MAX_GROUPS }
+    requires z { z < MAX_GROUPS }
     ensures words { slots.new.words ≡ run_all (program_of shader.now) (row_of_groups groups shader.now.group z y) slots.old.words }
     ensures around { slots.new.around ≡ slots.old.around }
     ensures made { IsFor frame.new shader.now }
@@ -108,9 +105,9 @@ fn run_plane_of_groups(
     slots: &mut Slots<'_>,
 )
     requires made { IsFor frame.old shader.now }
-    requires x { slice_index groups 0 ≤ 65535 }
-    requires y { slice_index groups 1 ≤ 65535 }
-    requires z { z < 65535 }
+    requires x { slice_index groups 0 ≤ MAX_GROUPS }
+    requires y { slice_index groups 1 ≤ MAX_GROUPS }
+    requires z { z < MAX_GROUPS }
     ensures words { slots.new.words ≡ run_all (program_of shader.now) (plane_of_groups groups shader.now.group z) slots.old.words }
     ensures around { slots.new.around ≡ slots.old.around }
     ensures made { IsFor frame.new shader.now }
@@ -124,9 +121,9 @@ fn run_plane_of_groups(
 /// All groups of a dispatch.
 fn run_all_groups(shader: &Shader, groups: [u32; 3], frame: &mut Frame, slots: &mut Slots<'_>)
     requires made { IsFor frame.old shader.now }
-    requires x { slice_index groups 0 ≤ 65535 }
-    requires y { slice_index groups 1 ≤ 65535 }
-    requires z { slice_index groups 2 ≤ 65535 }
+    requires x { slice_index groups 0 ≤ MAX_GROUPS }
+    requires y { slice_index groups 1 ≤ MAX_GROUPS }
+    requires z { slice_index groups 2 ≤ MAX_GROUPS }
     ensures words { slots.new.words ≡ run_all (program_of shader.now) (all_of groups shader.now.group) slots.old.words }
     ensures around { slots.new.around ≡ slots.old.around }
     ensures made { IsFor frame.new shader.now }
@@ -147,14 +144,14 @@ fn volume(sizes: [u32; 3]) -> u64
 
 /// How many invocations so many groups of a size have, None where a dispatch may not be so large.
 fn count_allowed(groups: [u32; 3], size: [u32; 3]) -> Option<u64>
-    requires { volume size ≤ 1024 }
+    requires { volume size ≤ MAX_THREADS }
     ensures { result ≡ (if is_allowed groups size then Some (volume groups * volume size) else None) }
 {
-    if groups[0] > GROUPS || groups[1] > GROUPS || groups[2] > GROUPS {
+    if groups[0] > MAX_GROUPS || groups[1] > MAX_GROUPS || groups[2] > MAX_GROUPS {
         return None;
     }
     let count = volume(groups) * volume(size);
-    if count > INVOCATIONS {
+    if count > MAX_INVOCATIONS {
         None
     } else {
         Some(count)

@@ -4,11 +4,9 @@ ghost use Rattle.std.specs.Prelude.{◌≡◌, length, replicate, IfOk};
 ghost use Rattle.shader_eval.specs.Frames.{IsFor};
 
 use crate::temps::Temps;
+use dx_types::limits::LOOP_TURNS;
 use shader_model::Shader;
 use std::alloc::{AllocError, Global};
-
-/// How many turns an invocation's loops have together.
-const TURNS: u32 = 4096;
 
 /// The temporaries of an invocation, and how many turns its loops have left. It is made once for a shader, and serves
 /// one invocation after another.
@@ -26,16 +24,16 @@ impl Frame {
         let temps = Temps::new(alloc, shader.temps())?;
         Ok(Frame {
             temps,
-            turns: TURNS,
+            turns: LOOP_TURNS,
         })
     }
 
     /// Begins an invocation: all temporaries are 0, and all turns are left.
     pub(crate) fn begin(&mut self)
         ensures temps { self.new.temps ≡ replicate (length self.old.temps) 0 }
-        ensures turns { self.new.turns ≡ 4096 }
+        ensures turns { self.new.turns ≡ LOOP_TURNS }
     {
         self.temps.clear();
-        self.turns = TURNS;
+        self.turns = LOOP_TURNS;
     }
 }

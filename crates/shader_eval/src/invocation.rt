@@ -6,6 +6,7 @@ ghost use Rattle.shader_model.specs.Shader.{program_of};
 ghost use Rattle.shader_model.specs.Invocation.{invoked};
 ghost use Rattle.shader_eval.specs.Frames.{IsFor};
 ghost use Rattle.shader_eval.specs.Threads.{IsBelow, AllBelow};
+ghost use Rattle.dx_types.specs.declared.limits.TheConstants.{MAX_GROUPS};
 
 use crate::frame::Frame;
 use crate::run::run_nodes;
@@ -19,7 +20,7 @@ pub fn invoke(shader: &Shader, ids: &Ids, frame: &mut Frame, slots: &mut Slots<'
     requires made { IsFor frame.old shader.now }
     requires size { ids.now.size ≡ shader.now.group }
     requires thread { IsBelow ids.now.thread ids.now.size }
-    requires group { AllBelow 65535 ids.now.group }
+    requires group { AllBelow MAX_GROUPS ids.now.group }
     ensures words { slots.new.words ≡ invoked (program_of shader.now) ids.now slots.old.words }
     ensures around { slots.new.around ≡ slots.old.around }
     ensures made { IsFor frame.new shader.now }

@@ -2,6 +2,7 @@
 use Rattle.std.specs.Prelude.{ℕ, ◌+◌, ◌*◌, ◌/◌, ◌%◌, ◌==◌, Bool, true, false, not, ◌&&◌, ◌||◌, if◌then◌else◌, nat_lt, nat_le, List, [], ◌∷◌, ◌++◌, length, reverse, Option, Some, None, is_some, is_none, slice_index, unwrap_or, flat_map}
 use Rattle.dx_types.specs.declared.shape.Form.{Form}
 use Rattle.dx_types.specs.declared.shape.Form.TheVariants.{Raw, Structured, Typed}
+use Rattle.dx_types.specs.declared.limits.TheConstants.{CONSTANT_SLOTS, MAX_SHADER_WORDS, MAX_STRIDE, MAX_TEMPORARIES, MAX_THREADS, MAX_THREADS_Z, MIN_STRIDE, SRV_SLOTS, UAV_SLOTS}
 use Rattle.shader_model.specs.declared.fault.ShaderFault.{ShaderFault}
 use Rattle.shader_model.specs.declared.fault.ShaderKind.{ShaderKind}
 use Rattle.shader_model.specs.declared.fault.ShaderKind.TheVariants as kind
@@ -78,7 +79,7 @@ temps_of said = unwrap_or said.temps 0
 
 -- how many slots an opcode declares from: constant buffers, resources, unordered access views
 abbrev pub slots_of : ℕ → ℕ
-slots_of n = if n == 3 then 14 else if n == 4 then 16 else 8
+slots_of n = if n == 3 then CONSTANT_SLOTS else if n == 4 then SRV_SLOTS else UAV_SLOTS
 
 -- a size from 1 to its limit
 abbrev pub is_size : ℕ → ℕ → Bool
@@ -87,13 +88,13 @@ is_size limit n = nat_lt 0 n && nat_le n limit
 -- x and y are at most 1,024, z at most 64, and a group has at most 1,024 threads
 abbrev pub is_group : List ℕ → Bool
 is_group sizes =
-    is_size 1024 (slice_index sizes 0) && is_size 1024 (slice_index sizes 1) && is_size 64 (slice_index sizes 2)
-    && nat_le (slice_index sizes 0 * slice_index sizes 1 * slice_index sizes 2) 1024
+    is_size MAX_THREADS (slice_index sizes 0) && is_size MAX_THREADS (slice_index sizes 1) && is_size MAX_THREADS_Z (slice_index sizes 2)
+    && nat_le (slice_index sizes 0 * slice_index sizes 1 * slice_index sizes 2) MAX_THREADS
 
 -- the parameter that a form takes: none, a stride, a number of components
 abbrev pub takes_parameter : Form → (parameter : ℕ) → Bool
 takes_parameter Raw p = p == 0
-takes_parameter Structured p = (p % 4 == 0) && nat_le 4 p && nat_le p 2048
+takes_parameter Structured p = (p % 4 == 0) && nat_le MIN_STRIDE p && nat_le p MAX_STRIDE
 takes_parameter Typed p = (p == 1) || (p == 2) || (p == 4)
 
 -- the rules of a declaration's words after its first
@@ -104,7 +105,7 @@ declaration_rules said item =
     let form = slice_index item.more 1 in
     let slot_rule = rule (nat_le (slots_of n) slot || is_some (declared_among n slot said.declared)) (item.at + 1) kind.Slot in
     if n == 1 then rule (not (is_group item.more)) (item.at + 1) kind.Group ∷ []
-    else if n == 2 then rule (nat_lt 4096 slot) (item.at + 1) kind.Register ∷ []
+    else if n == 2 then rule (nat_lt MAX_TEMPORARIES slot) (item.at + 1) kind.Register ∷ []
     else if n == 3 then slot_rule ∷ []
     else slot_rule
     ∷ rule (nat_lt 2 form) (item.at + 2) kind.Slot
@@ -248,7 +249,7 @@ first_bad words = or_else (first_broken (header_rules words)) (items_fault [] (i
 -- the rules of the number of bytes
 abbrev pub bytes_rules : List ℕ → List Rule
 bytes_rules bytes =
-    rule (nat_lt 65536 (length bytes / 4)) 0 kind.TooLong
+    rule (nat_lt MAX_SHADER_WORDS (length bytes / 4)) 0 kind.TooLong
     ∷ rule (not (length bytes % 4 == 0) || nat_lt (length bytes) 8) 0 kind.Length
     ∷ []
 

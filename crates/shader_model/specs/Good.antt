@@ -1,6 +1,7 @@
 -- What holds of each decoded shader: every slot and register that it names is declared.
 use Rattle.std.specs.Prelude.{◌≡◌, ℕ, ◌<◌, ◌≤◌, ◌≢◌, ◌+◌, suc, max, Bool, true, false, List, count_by, length, nat_lt, Option, Some, None, is_some, slice_index, slice_index_or, IsTrue, IsSome}
 use Rattle.std.specs.List.{AllByRecursion}
+use Rattle.dx_types.specs.declared.limits.TheConstants.{MAX_NESTING, MAX_SHADER_WORDS, MAX_TEMPORARIES}
 use Rattle.shader_model.specs.declared.tree.Declared.{Declared}
 use Rattle.shader_model.specs.declared.tree.Target.{Target}
 use Rattle.shader_model.specs.declared.tree.Operand.{Operand}
@@ -133,8 +134,8 @@ size (Return t rest) = suc (size rest)
 pub record IsGood (p : Program) : Type 0 where
   pub group : is_group p.group ≡ true
   pub sizes : length p.group ≡ 3
-  pub temps : p.temps ≤ 4096
+  pub temps : p.temps ≤ MAX_TEMPORARIES
   pub declared : AllByRecursion DeclaredFits p.declared
   pub fits : Fits p.declared p.temps p.body
-  pub nesting : depth p.body ≤ 64
-  pub nodes : size p.body ≤ 65536
+  pub nesting : depth p.body ≤ MAX_NESTING
+  pub nodes : size p.body ≤ MAX_SHADER_WORDS

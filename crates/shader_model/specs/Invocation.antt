@@ -3,6 +3,7 @@ use Rattle.std.specs.Prelude.{ℕ, zero, suc, ◌+◌, ◌*◌, ◌/◌, ◌==�
 use Rattle.std.specs.Int.{reverse_bits, w32}
 use Rattle.dx_types.specs.declared.shape.Form.{Form}
 use Rattle.dx_types.specs.declared.shape.Form.TheVariants.{Raw, Structured, Typed}
+use Rattle.dx_types.specs.declared.limits.TheConstants.{LOOP_TURNS}
 use Rattle.shader_model.specs.declared.tree.Declared.{Declared}
 use Rattle.shader_model.specs.declared.tree.Target.{Target}
 use Rattle.shader_model.specs.declared.tree.Operand.{Operand}
@@ -329,7 +330,7 @@ state_of (Ends s) = s
 
 -- an invocation begins with temporaries of 0 and 4,096 turns
 abbrev pub begun : Program → Slots → State
-begun p slots = record { temps = replicate (4 * p.temps) 0; slots = slots; turns = 4096 }
+begun p slots = record { temps = replicate (4 * p.temps) 0; slots = slots; turns = LOOP_TURNS }
 
 -- the slots' words after one invocation
 abbrev pub invoked : Program → Ids → Slots → Slots

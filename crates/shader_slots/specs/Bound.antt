@@ -1,5 +1,6 @@
 -- What is bound for a dispatch: the words of each slot, and the bytes around each part that is written.
 use Rattle.std.specs.Prelude.{ℕ, ◌<◌, ◌≤◌, slice_index, length, List, [], map, replicate, slice_set, slice_index_or, Option, Some, None}
+use Rattle.dx_types.specs.declared.limits.TheConstants.{CONSTANT_SLOTS, MAX_BUFFER_WORDS, SRV_SLOTS, UAV_SLOTS}
 use Rattle.shader_model.specs.Invocation.{Slots, words_in}
 use Rattle.shader_slots.specs.Part.{Part}
 
@@ -36,9 +37,9 @@ with_word i value (Some p) = Some (record p { words = slice_set p.words i value 
 
 -- no slot has more words than a buffer of 16,777,216 bytes, and each word has 32 bits
 pub record WithinLimit (s : Slots) : Type 0 where
-  pub constants : (n : ℕ) → length (words_in s.constants n) ≤ 4194304
-  pub reads : (n : ℕ) → length (words_in s.reads n) ≤ 4194304
-  pub writes : (n : ℕ) → length (words_in s.writes n) ≤ 4194304
+  pub constants : (n : ℕ) → length (words_in s.constants n) ≤ MAX_BUFFER_WORDS
+  pub reads : (n : ℕ) → length (words_in s.reads n) ≤ MAX_BUFFER_WORDS
+  pub writes : (n : ℕ) → length (words_in s.writes n) ≤ MAX_BUFFER_WORDS
   pub constant_words : (n i : ℕ) → slice_index (words_in s.constants n) i < 4294967296
   pub read_words : (n i : ℕ) → slice_index (words_in s.reads n) i < 4294967296
   pub write_words : (n i : ℕ) → slice_index (words_in s.writes n) i < 4294967296
@@ -46,8 +47,8 @@ pub record WithinLimit (s : Slots) : Type 0 where
 -- nothing is bound
 abbrev pub unbound : Bound
 unbound = record {
-  words = record { constants = replicate 14 []; reads = replicate 16 []; writes = replicate 8 [] };
-  around = replicate 8 None;
+  words = record { constants = replicate CONSTANT_SLOTS []; reads = replicate SRV_SLOTS []; writes = replicate UAV_SLOTS [] };
+  around = replicate UAV_SLOTS None;
 }
 
 -- a constant buffer's slot, a resource's, and an unordered access view's with other words

@@ -11,6 +11,3 @@ mod writes;
 pub use slots::Slots;
 pub use views::{loaded, place, view_len, view_word, word_at};
 pub use whole::Whole;
-
-#[cfg(test)]
-mod tests;

@@ -2,24 +2,20 @@ ghost use Rattle.std.specs.Prelude.{◌≡◌, ◌%◌, ◌<◌, ◌≤◌, leng
 ghost use Rattle.shader_model.specs.Words.{words_of};
 ghost use Rattle.shader_model.specs.Invocation.{words_in};
 ghost use Rattle.shader_slots.specs.Bound.{WithinLimit, around_bound, unbound, words_bound, with_constant, with_read, with_write, with_written, part_at};
+ghost use Rattle.dx_types.specs.declared.limits.TheConstants.{MAX_BUFFER_SIZE, MAX_BUFFER_WORDS};
 
 use crate::whole::Whole;
 use crate::words;
 use crate::writes::Writes;
+use dx_types::limits::{CONSTANT_SLOTS, SRV_SLOTS, UAV_SLOTS};
 use std::marker::Model;
-
-/// How many constant buffers can be bound.
-const CONSTANTS: usize = 14;
-
-/// How many shader resource views can be bound.
-const READS: usize = 16;
 
 /// What is bound for a dispatch. A slot never bound is empty, and so is one that doesn't exist. A clause sees the words
 /// of each slot, and the bytes around each part that may be written.
 #[derive(Drop)]
 pub struct Slots<'a> {
-    constants: [&'a [u8]; CONSTANTS],
-    reads: [&'a [u8]; READS],
+    constants: [&'a [u8]; CONSTANT_SLOTS],
+    reads: [&'a [u8]; SRV_SLOTS],
     writes: Writes,
 }
 
@@ -40,17 +36,17 @@ impl<'a> Slots<'a> {
         ensures { result ≡ unbound }
     {
         Slots {
-            constants: [&[]; CONSTANTS],
-            reads: [&[]; READS],
+            constants: [&[]; CONSTANT_SLOTS],
+            reads: [&[]; SRV_SLOTS],
             writes: Writes::new(),
         }
     }
 
     /// Binds a constant buffer's bytes.
     pub fn bind_constant(&mut self, slot: usize, part: &'a [u8])
-        requires slot { slot < 14 }
+        requires slot { slot < CONSTANT_SLOTS }
         requires words { length part.now % 4 ≡ 0 }
-        requires limit { length part.now ≤ 16777216 }
+        requires limit { length part.now ≤ MAX_BUFFER_SIZE }
         ensures { self.new ≡ with_constant slot (words_of part.now) self.old }
     {
         words::have_bits(part);
@@ -59,9 +55,9 @@ impl<'a> Slots<'a> {
 
     /// Binds the bytes of a shader resource view.
     pub fn bind_read(&mut self, slot: usize, part: &'a [u8])
-        requires slot { slot < 16 }
+        requires slot { slot < SRV_SLOTS }
         requires words { length part.now % 4 ≡ 0 }
-        requires limit { length part.now ≤ 16777216 }
+        requires limit { length part.now ≤ MAX_BUFFER_SIZE }
         ensures { self.new ≡ with_read slot (words_of part.now) self.old }
     {
         words::have_bits(part);
@@ -70,7 +66,7 @@ impl<'a> Slots<'a> {
 
     /// Binds the part of an unordered access view. What the slot had is let go.
     pub fn bind_write(&mut self, slot: usize, part: Whole)
-        requires { slot < 8 }
+        requires { slot < UAV_SLOTS }
         ensures { self.new ≡ with_write slot (Some part) self.old }
     {
         self.writes.put(slot, part);
@@ -78,7 +74,7 @@ impl<'a> Slots<'a> {
 
     /// Takes back what is bound of an unordered access view, and leaves the slot empty.
     pub fn take_write(&mut self, slot: usize) -> Option<Whole>
-        requires { slot < 8 }
+        requires { slot < UAV_SLOTS }
         ensures part { result ≡ part_at slot self.old }
         ensures empty { self.new ≡ with_write slot None self.old }
     {
@@ -86,7 +82,7 @@ impl<'a> Slots<'a> {
     }
 
     /// Takes all that is bound apart: the parts of the unordered access views, by slot.
-    pub fn into_writes(self) -> [Option<Whole>; 8]
+    pub fn into_writes(self) -> [Option<Whole>; UAV_SLOTS]
         ensures words { map words_bound result ≡ self.entry.words.writes }
         ensures around { map around_bound result ≡ self.entry.around }
     {
@@ -103,7 +99,7 @@ impl<'a> Slots<'a> {
     /// How many words a constant buffer's slot has.
     pub fn constant_len(&self, slot: usize) -> usize
         ensures count { result ≡ length (words_in self.now.words.constants slot) }
-        ensures limit { result ≤ 4194304 }
+        ensures limit { result ≤ MAX_BUFFER_WORDS }
     {
         words::len(part_at(&self.constants, slot))
     }
@@ -119,7 +115,7 @@ impl<'a> Slots<'a> {
     /// How many words a resource's slot has.
     pub fn read_len(&self, slot: usize) -> usize
         ensures count { result ≡ length (words_in self.now.words.reads slot) }
-        ensures limit { result ≤ 4194304 }
+        ensures limit { result ≤ MAX_BUFFER_WORDS }
     {
         words::len(part_at(&self.reads, slot))
     }
@@ -135,7 +131,7 @@ impl<'a> Slots<'a> {
     /// How many words an unordered access view's slot has.
     pub fn write_len(&self, slot: usize) -> usize
         ensures count { result ≡ length (words_in self.now.words.writes slot) }
-        ensures limit { result ≤ 4194304 }
+        ensures limit { result ≤ MAX_BUFFER_WORDS }
     {
         self.writes.len(slot)
     }

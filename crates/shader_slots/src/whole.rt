@@ -1,5 +1,6 @@
 ghost use Rattle.std.specs.Prelude.{ℕ, ◌≡◌, ◌-◌, ◌%◌, ◌<◌, ◌≤◌, length, slice_index, slice_set, vec_len};
 ghost use Rattle.shader_slots.specs.Part.{part_of, bytes_of};
+ghost use Rattle.dx_types.specs.declared.limits.TheConstants.{MAX_BUFFER_SIZE, MAX_BUFFER_WORDS};
 
 use crate::words;
 use std::marker::Model;
@@ -16,12 +17,13 @@ pub struct Whole {
 impl Model for Whole {
     ghost use Rattle.std.specs.Prelude.{◌≤◌, ◌≡◌, ◌-◌, ◌%◌, vec_len};
     ghost use Rattle.shader_slots.specs.Part.{Part, part_of};
+    ghost use Rattle.dx_types.specs.declared.limits.TheConstants.{MAX_BUFFER_SIZE};
 
     ghost Value = { Part };
 
     ghost view = { λ w. part_of w.bytes.items w.from w.to };
 
-    ghost invariant = { λ w. (w.from ≤ w.to) × (w.to ≤ vec_len w.bytes) × ((w.to - w.from) % 4 ≡ 0) × (w.to - w.from ≤ 16777216) };
+    ghost invariant = { λ w. (w.from ≤ w.to) × (w.to ≤ vec_len w.bytes) × ((w.to - w.from) % 4 ≡ 0) × (w.to - w.from ≤ MAX_BUFFER_SIZE) };
 }
 
 impl Whole {
@@ -30,7 +32,7 @@ impl Whole {
         requires order { from ≤ to }
         requires within { to ≤ vec_len bytes }
         requires words { (to - from) % 4 ≡ 0 }
-        requires limit { to - from ≤ 16777216 }
+        requires limit { to - from ≤ MAX_BUFFER_SIZE }
         ensures { result ≡ part_of bytes.items from to }
     {
         Whole { bytes, from, to }
@@ -46,7 +48,7 @@ impl Whole {
     /// How many words the part has.
     pub fn len(&self) -> usize
         ensures count { result ≡ length self.now.words }
-        ensures limit { result ≤ 4194304 }
+        ensures limit { result ≤ MAX_BUFFER_WORDS }
     {
         (self.to - self.from) / 4
     }

@@ -2,19 +2,17 @@ ghost use Rattle.std.specs.Prelude.{ℕ, ◌≡◌, ◌<◌, ◌≤◌, length, 
 ghost use Rattle.shader_slots.specs.Bound.{words_bound, with_word};
 
 use crate::whole::Whole;
-
-/// How many unordered access views can be bound.
-const WRITES: usize = 8;
+use dx_types::limits::{MAX_BUFFER_WORDS, UAV_SLOTS};
 
 /// The parts that unordered access views name, by slot.
 #[derive(Drop)]
 pub(crate) struct Writes {
-    pub(crate) parts: [Option<Whole>; WRITES],
+    pub(crate) parts: [Option<Whole>; UAV_SLOTS],
 }
 
 impl Writes {
     pub(crate) fn new() -> Writes
-        ensures { result.parts ≡ replicate 8 None }
+        ensures { result.parts ≡ replicate UAV_SLOTS None }
     {
         Writes {
             parts: [None, None, None, None, None, None, None, None],
@@ -22,18 +20,18 @@ impl Writes {
     }
 
     pub(crate) fn put(&mut self, slot: usize, part: Whole)
-        requires { slot < 8 }
+        requires { slot < UAV_SLOTS }
         ensures put { self.new.parts ≡ slice_set self.old.parts slot (Some part) }
-        ensures limit { length part.words ≤ 4194304 }
+        ensures limit { length part.words ≤ MAX_BUFFER_WORDS }
         ensures words { (i : ℕ) → slice_index part.words i < 4294967296 }
     {
-        prove!(part.len() <= 4_194_304);
+        prove!(part.len() <= MAX_BUFFER_WORDS);
         part.has_words();
         self.parts[slot] = Some(part);
     }
 
     pub(crate) fn take(&mut self, slot: usize) -> Option<Whole>
-        requires { slot < 8 }
+        requires { slot < UAV_SLOTS }
         ensures part { result ≡ slice_index_or self.old.parts slot None }
         ensures empty { self.new.parts ≡ slice_set self.old.parts slot None }
     {
@@ -43,7 +41,7 @@ impl Writes {
     /// How many words a slot has.
     pub(crate) fn len(&self, slot: usize) -> usize
         ensures count { result ≡ length (words_bound (slice_index_or self.now.parts slot None)) }
-        ensures limit { result ≤ 4194304 }
+        ensures limit { result ≤ MAX_BUFFER_WORDS }
     {
         match self.parts.get(slot) {
             Some(Some(part)) => part.len(),

@@ -13,6 +13,7 @@ use crate::levels::Levels;
 use crate::reader::Reader;
 use crate::rules::fault;
 use crate::words::{behind, front, len, word};
+use dx_types::limits::MAX_SHADER_WORDS;
 use shader_model::{Shader, ShaderFault, ShaderKind};
 use sqlite_items::Items;
 use std::alloc::Global;
@@ -28,7 +29,7 @@ fn is_torn(bytes: &[u8]) -> bool
 fn header_fault(bytes: &[u8]) -> Option<ShaderFault>
     ensures { result ≡ header_fault_of bytes.now }
 {
-    if len(bytes) > 65_536 {
+    if len(bytes) > MAX_SHADER_WORDS {
         Some(fault(0, ShaderKind::TooLong))
     } else if is_torn(bytes) {
         Some(fault(0, ShaderKind::Length))

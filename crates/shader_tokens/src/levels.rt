@@ -5,6 +5,7 @@ ghost use Rattle.shader_model.specs.Body.{node_before, nodes_before, body_of};
 ghost use Rattle.shader_model.specs.Nesting.{Spelled, put, in_loop, has_room};
 ghost use Rattle.shader_tokens.specs.Levels.{kind, closed, blocks, seen};
 
+use dx_types::limits::MAX_NESTING;
 use shader_model::{Node, Test};
 use sqlite_items::Items;
 use std::alloc::{AllocError, Global};
@@ -52,7 +53,7 @@ impl Levels {
     pub fn has_room(&self) -> bool
         ensures { result ≡ has_room (blocks self.now) }
     {
-        self.levels.len() < 64
+        self.levels.len() < MAX_NESTING
     }
 
     pub fn in_loop(&self) -> bool

@@ -17,6 +17,3 @@ pub use end::ShaderEnd;
 pub use shader_model::{
     Declared, Ids, Instr, Node, Operand, Shader, ShaderFault, ShaderKind, SlotUse, Target, Test,
 };
-
-#[cfg(test)]
-mod tests;

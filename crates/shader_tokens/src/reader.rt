@@ -14,6 +14,7 @@ ghost use Rattle.shader_model.specs.Nesting.{spelled};
 ghost use Rattle.shader_model.specs.Faults.{first_broken, first_word_rules, declaration_rules, instruction_rules, operand_rules, item_fault, temps_of, fault_at, placed};
 ghost use Rattle.shader_tokens.specs.Levels.{seen};
 ghost use Rattle.shader_tokens.specs.Decoding.{IfBad, item_of, walks, first_part, parts_at, rules_of, said, and_said, and_declared, and_blocks, nothing_said};
+ghost use Rattle.dx_types.specs.declared.limits.TheConstants.{MAX_SHADER_WORDS};
 
 use crate::end::ShaderEnd;
 use crate::gather::{slot_use_of, statement_of};
@@ -27,6 +28,7 @@ use crate::rules::{
 use crate::table::{find_row, kinds};
 use crate::words::{behind, bits, front, word};
 use dx_types::Form;
+use dx_types::limits::{CONSTANT_SLOTS, MAX_TEMPORARIES, SRV_SLOTS, UAV_SLOTS};
 use shader_model::{Access, Declared, Kind, Row, ShaderFault, ShaderKind, Statement};
 use std::alloc::{AllocError, Global};
 
@@ -89,7 +91,7 @@ impl Reader {
 
     /// The first rule of a declaration's further words that is broken.
     fn declaration_fault(&self, item: &Item<'_>) -> Option<ShaderFault>
-        requires { item.now.at ≤ 65536 }
+        requires { item.now.at ≤ MAX_SHADER_WORDS }
         ensures { result ≡ first_broken (declaration_rules (said self.now) (item_of item.now)) }
     {
         let opcode = opcode(item.first);
@@ -101,7 +103,7 @@ impl Reader {
                 Some(fault(item.at + 1, ShaderKind::Group))
             }
         } else if opcode == 2 {
-            if first > 4096 {
+            if first > MAX_TEMPORARIES {
                 Some(fault(item.at + 1, ShaderKind::Register))
             } else {
                 None
@@ -113,7 +115,7 @@ impl Reader {
 
     /// The first rule of a slot's declaration that is broken.
     fn slot_fault(&self, item: &Item<'_>) -> Option<ShaderFault>
-        requires near { item.now.at ≤ 65536 }
+        requires near { item.now.at ≤ MAX_SHADER_WORDS }
         requires no_group { items.opcode (item_of item.now) ≢ 1 }
         requires no_temps { items.opcode (item_of item.now) ≢ 2 }
         ensures { result ≡ first_broken (declaration_rules (said self.now) (item_of item.now)) }
@@ -121,9 +123,9 @@ impl Reader {
         let opcode = opcode(item.first);
         let slot = word(item.more, 0);
         let slots = match opcode {
-            3 => 14,
-            4 => 16,
-            _ => 8,
+            3 => CONSTANT_SLOTS as u32,
+            4 => SRV_SLOTS as u32,
+            _ => UAV_SLOTS as u32,
         };
         if slot >= slots || declared_among(opcode as u32, slot, &self.declared).is_some() {
             Some(fault(item.at + 1, ShaderKind::Slot))
@@ -146,7 +148,7 @@ impl Reader {
         at: u32,
         words: &[u8],
     ) -> Option<ShaderFault>
-        requires { at ≤ 65536 }
+        requires { at ≤ MAX_SHADER_WORDS }
         ensures { result ≡ first_broken (operand_rules kind (said self.now) access (first_part kind at (words_of words.now))) }
     {
         let first = word(words, 0);
@@ -176,7 +178,7 @@ impl Reader {
 
     /// The first rule of a source that is broken, where `more` has the words that follow its first one.
     fn source_fault(&self, at: u32, first: u32, more: &[u8]) -> Option<ShaderFault>
-        requires { at ≤ 65536 }
+        requires { at ≤ MAX_SHADER_WORDS }
         ensures { (a : access_.Access) → result ≡ first_broken (operand_rules Source (said self.now) a (record { kind = Source; at = at; word = first; more = words_of more.now })) }
     {
         let is_constant = bits(0, 4, first) == 2;
@@ -233,7 +235,7 @@ impl Reader {
 
     /// Takes a declaration whose first word is good.
     fn declaration(&mut self, item: &Item<'_>) -> Result<(), ShaderEnd>
-        requires near { item.now.at ≤ 65536 }
+        requires near { item.now.at ≤ MAX_SHADER_WORDS }
         requires declares { items.is_declaration (item_of item.now) ≡ true }
         ensures bad { IfBad result (λ f. first_broken (declaration_rules (said self.old) (item_of item.now)) ≡ Some f) }
         ensures good { OnOk result (first_broken (declaration_rules (said self.old) (item_of item.now)) ≡ None) }

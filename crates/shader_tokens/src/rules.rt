@@ -6,6 +6,7 @@ ghost use Rattle.shader_model.specs.Faults as faults;
 
 use crate::words::bits;
 use dx_types::Form;
+use dx_types::limits::{MAX_STRIDE, MAX_THREADS, MAX_THREADS_Z, MIN_STRIDE};
 use shader_model::{Access, Declared, ShaderFault, ShaderKind, SlotUse};
 
 /// A bad word and the rule that it breaks.
@@ -115,7 +116,13 @@ pub fn takes_extra(opcode: u8, extra: u32) -> bool
 pub fn is_group(x: u32, y: u32, z: u32) -> bool
     ensures { result ≡ faults.is_group (x ∷ y ∷ z ∷ []) }
 {
-    1 <= x && x <= 1024 && 1 <= y && y <= 1024 && 1 <= z && z <= 64 && x * y * z <= 1024
+    1 <= x
+        && x <= MAX_THREADS
+        && 1 <= y
+        && y <= MAX_THREADS
+        && 1 <= z
+        && z <= MAX_THREADS_Z
+        && x * y * z <= MAX_THREADS
 }
 
 /// Whether a form takes a parameter: raw none, structured a stride, typed a number of components.
@@ -124,7 +131,7 @@ pub fn takes_parameter(form: u32, parameter: u32) -> bool
 {
     match form {
         0 => parameter == 0,
-        1 => parameter % 4 == 0 && 4 <= parameter && parameter <= 2048,
+        1 => parameter % 4 == 0 && MIN_STRIDE <= parameter && parameter <= MAX_STRIDE,
         _ => parameter == 1 || parameter == 2 || parameter == 4,
     }
 }

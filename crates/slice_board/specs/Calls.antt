@@ -1,5 +1,6 @@
 -- What the calls of a board say.
 use Rattle.std.specs.Prelude.{◌≡◌, ◌≢◌, ℕ, ◌+◌, ◌*◌, ◌/◌, ◌%◌, ◌≤◌, ◌<◌, List, [], ◌∷◌, length, max, Some, None, IsSome}
+use Rattle.dx_types.specs.declared.limits.TheConstants.{CLASS_BLOCKS}
 use Rattle.atomic_table.specs.Seated.{TableId}
 use Rattle.buffer_blocks.specs.declared.block.Block.{Block}
 use Rattle.buffer_blocks.specs.Block.{bytes_of}
@@ -36,7 +37,7 @@ pub record NotTakenAt (k : ℕ) (before after : Hand) : Type 0 where
 pub record TakenAt (k : ℕ) (b : Block) (before after : Hand) : Type 0 where
   pub read : ℕ
   pub hand : after ≡ having_taken before k b.retired read
-  pub len : length (bytes_of b) ≡ class_len (k / 64)
+  pub len : length (bytes_of b) ≡ class_len (k / CLASS_BLOCKS)
   pub retired : b.retired ≤ read
   pub done : KnowsDone read before
   pub home : PoolHas before k (Some b)
@@ -73,28 +74,28 @@ pub record FoundFull (first n : ℕ) (before after : Hand) : Type 0 where
 -- For the seat that knows the pool the place is the lowest that has a block.
 pub record Taken (class : ℕ) (b : Block) (before after : Hand) : Type 0 where
   pub place : ℕ
-  pub within : place < 64
+  pub within : place < CLASS_BLOCKS
   pub passed_over : Hand
-  pub others : FoundNone (64 * class) place before passed_over
+  pub others : FoundNone (CLASS_BLOCKS * class) place before passed_over
   pub read : ℕ
-  pub hand : after ≡ having_taken passed_over (64 * class + place) b.retired read
+  pub hand : after ≡ having_taken passed_over (CLASS_BLOCKS * class + place) b.retired read
   pub len : length (bytes_of b) ≡ class_len class
   pub retired : b.retired ≤ read
   pub done : KnowsDone read before
-  pub home : PoolHas before (64 * class + place) (Some b)
+  pub home : PoolHas before (CLASS_BLOCKS * class + place) (Some b)
 
 -- A block went home, to the place after those that were passed over. For the seat that knows the pool it is the lowest that has none.
 pub record Given (class : ℕ) (b : Block) (before after : Hand) : Type 0 where
   pub place : ℕ
-  pub within : place < 64
+  pub within : place < CLASS_BLOCKS
   pub passed_over : Hand
-  pub others : FoundFull (64 * class) place before passed_over
-  pub hand : after ≡ having_given passed_over (64 * class + place) b
-  pub home : PoolHas before (64 * class + place) None
+  pub others : FoundFull (CLASS_BLOCKS * class) place before passed_over
+  pub hand : after ≡ having_given passed_over (CLASS_BLOCKS * class + place) b
+  pub home : PoolHas before (CLASS_BLOCKS * class + place) None
 
 abbrev pub TakeGives : ℕ → Hand → Take → Hand → Type 0
 TakeGives class before (Got b) after = Taken class b before after
-TakeGives class before (NoneFree looked) after = (looked ≡ 64) × FoundNone (64 * class) 64 before after
+TakeGives class before (NoneFree looked) after = (looked ≡ CLASS_BLOCKS) × FoundNone (CLASS_BLOCKS * class) CLASS_BLOCKS before after
 
 -- the greatest number is the greater of what was found and k
 pub record Raised (k : ℕ) (before after : Hand) : Type 0 where

@@ -1,6 +1,7 @@
 -- The rule of the board. Word 0 is not used, word k + 1 is that of place k, and word 513 is the greatest number that was raised.
 -- A place's word is 0 if it is vacant, 1 + 4 r if it is busy, and 3 + 4 r if a block with `retired` r is at home there.
 use Rattle.std.specs.Prelude.{◌≡◌, ℕ, ◌+◌, ◌*◌, ◌/◌, ◌%◌, ◌<◌, ◌≤◌, List, length, Option, Some, None, slice_index}
+use Rattle.dx_types.specs.declared.limits.TheConstants.{CLASS_BLOCKS}
 use mathlib.Core.Option.{Option as Maybe, none, some}
 use lib.ListN.{get_elem?}
 use Rattle.atomic_table.specs.Table.{State}
@@ -23,7 +24,7 @@ home_at s k = get_elem? s.homes k
 -- the block fits the place
 pub record IsHome (done k : ℕ) (b : Block) : Type 0 where
   pub retired : b.retired ≤ done
-  pub len : length (bytes_of b) ≡ class_len (k / 64)
+  pub len : length (bytes_of b) ≡ class_len (k / CLASS_BLOCKS)
 
 -- the word w and the slot h of the place k agree
 pub data IsPlace (done k w : ℕ) (h : Maybe (Maybe (Option Block))) : Type 0 where

@@ -1,5 +1,6 @@
 -- What each step of the board tells its caller.
 use Rattle.std.specs.Prelude.{◌≡◌, ℕ, ◌+◌, ◌/◌, ◌%◌, ◌≤◌, ◌<◌, ◌==◌, max, ◌∷◌, length, Option, Some, None, IsSome, MatchBool}
+use Rattle.dx_types.specs.declared.limits.TheConstants.{CLASS_BLOCKS}
 use Rattle.atomic_table.specs.Table.{Me, Step, rest}
 use Rattle.buffer_blocks.specs.declared.block.Block.{Block}
 use Rattle.buffer_blocks.specs.Block.{bytes_of}
@@ -24,7 +25,7 @@ pub record Takes (k found : ℕ) (before after : Mine) : Type 0 where
   pub block : Block
   pub slot : after.1 ≡ (k, Some block) ∷ before.1
   pub hand : after.0 ≡ holding_taken before.0 k block.retired
-  pub len : length (bytes_of block) ≡ class_len (k / 64)
+  pub len : length (bytes_of block) ≡ class_len (k / CLASS_BLOCKS)
   pub pool : PoolHas before.0 k (Some block)
 
 pub record Finds (k found : ℕ) (before after : Mine) : Type 0 where

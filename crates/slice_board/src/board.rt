@@ -3,16 +3,15 @@ ghost use Rattle.buffer_blocks.specs.Block.{bytes_of};
 ghost use Rattle.slice_board.specs.Hands.{class_len, newcomer, empty_pool, with_read};
 ghost use Rattle.slice_board.specs.Steps.{KnowsDone};
 ghost use Rattle.slice_board.specs.Calls.{TakeGives, Given, FoundFull, TakenAt, NotTakenAt, GivenAt, NotGivenAt, Raised};
+ghost use Rattle.dx_types.specs.declared.limits.TheConstants.{CLASSES};
 
 use crate::rule::{Empties, Fills, Hand, Places, Raises, Reads, Seats, TriesGive, TriesTake};
 use atomic_table::{Seat, Table};
 use buffer_blocks::Block;
 use dx_types::ChunkNo;
+use dx_types::limits::CLASS_BLOCKS;
 use std::alloc::{AllocError, Global};
 use std::marker::Model;
-
-/// How many places a class has. Place p of class c is place 64 c + p of the board.
-const PLACES: usize = 64;
 
 /// The word of a place that has no block and that no seat holds.
 const VACANT: u64 = 0;
@@ -146,7 +145,7 @@ impl Board {
     fn give_at(&self, seat: &mut BoardSeat, place: usize, block: Block) -> Result<(), Block>
         requires board { seat.old.board ≡ self.now }
         requires place { place < 512 }
-        requires len { length (bytes_of block) ≡ class_len (place / 64) }
+        requires len { length (bytes_of block) ≡ class_len (place / CLASS_BLOCKS) }
         requires retired { block.retired ≤ seat.old.hand.read }
         ensures board { seat.new.board ≡ self.now }
         ensures given { MatchResult result (λ _. GivenAt place block seat.old.hand seat.new.hand) (λ b. (b ≡ block) × NotGivenAt place seat.old.hand seat.new.hand) }
@@ -166,34 +165,36 @@ impl Board {
     /// c has 256 * 4^c bytes.
     pub fn take(&self, seat: &mut BoardSeat, class: usize) -> Take
         requires board { seat.old.board ≡ self.now }
-        requires class { class < 8 }
+        requires class { class < CLASSES }
         ensures board { seat.new.board ≡ self.now }
         ensures taken { TakeGives class seat.old.hand result seat.new.hand }
     {
-        let first = PLACES * class;
-        'looks: for p in 0..PLACES {
+        let first = CLASS_BLOCKS * class;
+        'looks: for p in 0..CLASS_BLOCKS {
             if let Some(block) = self.take_at(seat, first + p) {
                 return Take::Got(block);
             }
         }
-        Take::NoneFree { looked: 64 }
+        Take::NoneFree {
+            looked: CLASS_BLOCKS as u32,
+        }
     }
 
     /// The block goes to the first place of the class that is found vacant. It comes back where none of its 64
     /// places is.
     pub fn give(&self, seat: &mut BoardSeat, class: usize, block: Block) -> Result<(), Block>
         requires board { seat.old.board ≡ self.now }
-        requires class { class < 8 }
+        requires class { class < CLASSES }
         requires len { length (bytes_of block) ≡ class_len class }
         requires retired { block.retired ≤ seat.old.hand.read }
         ensures board { seat.new.board ≡ self.now }
         ensures given { OnOk result (Given class block seat.old.hand seat.new.hand) }
         ensures back { IfErr result (λ b. b ≡ block) }
-        ensures full { OnErr result (FoundFull (64 * class) 64 seat.old.hand seat.new.hand) }
+        ensures full { OnErr result (FoundFull (CLASS_BLOCKS * class) CLASS_BLOCKS seat.old.hand seat.new.hand) }
     {
-        let first = PLACES * class;
+        let first = CLASS_BLOCKS * class;
         let mut kept = block;
-        'tries: for p in 0..PLACES {
+        'tries: for p in 0..CLASS_BLOCKS {
             match self.give_at(seat, first + p, kept) {
                 Ok(()) => return Ok(()),
                 Err(back) => kept = back,

@@ -6,6 +6,3 @@ mod rule;
 
 pub use board::{Board, BoardSeat, Take};
 pub use rule::{Hand, Places, Pool};
-
-#[cfg(test)]
-mod tests;

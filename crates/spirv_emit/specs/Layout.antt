@@ -1,5 +1,6 @@
 -- The ids that each emitted module has.
 use Rattle.std.specs.Prelude.{ℕ, ◌+◌}
+use Rattle.dx_types.specs.declared.limits.TheConstants.{MODULE_BINDINGS}
 use Rattle.spirv_emit.specs.declared.piece.Vector.{Vector}
 use Rattle.spirv_emit.specs.declared.piece.Vector.TheVariants.{Group, Thread, Global}
 
@@ -85,7 +86,7 @@ abbrev pub buffer_at : (binding : ℕ) → ℕ
 buffer_at b = 22 + b
 
 abbrev pub bindings : ℕ
-bindings = 38
+bindings = MODULE_BINDINGS
 
 abbrev pub main : ℕ
 main = 60

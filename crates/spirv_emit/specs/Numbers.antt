@@ -1,5 +1,6 @@
 -- The numbers that a module has as constants, each once.
 use Rattle.std.specs.Prelude.{ℕ, zero, suc, ◌+◌, ◌/◌, ◌==◌, if◌then◌else◌, Bool, true, false, List, [], ◌∷◌, ◌++◌, length, flat_map, Option, Some, None}
+use Rattle.dx_types.specs.declared.limits.TheConstants.{LOOP_TURNS}
 use Rattle.shader_model.specs.declared.tree.Declared.{Declared}
 use Rattle.shader_model.specs.declared.tree.Operand.{Operand}
 use Rattle.shader_model.specs.declared.tree.Instr.{Instr}
@@ -60,7 +61,7 @@ declared_numbers d = d.parameter ∷ d.parameter / 4 ∷ []
 
 -- how many turns an invocation may take
 abbrev pub most_turns : ℕ
-most_turns = 4096
+most_turns = LOOP_TURNS
 
 -- the numbers of every module: the bindings, which have all small numbers of the formulas among them, the turns, and
 -- all ones

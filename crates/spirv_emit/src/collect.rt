@@ -6,12 +6,10 @@ ghost use Rattle.shader_model.specs.Shader.{program_of};
 ghost use Rattle.spirv_emit.specs.Numbers.{with_numbers, from_on, own_numbers, operand_numbers, instr_numbers, test_numbers, body_numbers, declared_numbers, numbers_of};
 ghost use Rattle.spirv_emit.specs.Emits.{Numbered};
 
-use crate::ids::BINDINGS;
 use crate::numbers::Numbers;
+use dx_types::limits::{LOOP_TURNS, MODULE_BINDINGS};
 use shader_model::{Declared, Instr, Node, Operand, Shader, Test};
 use std::alloc::{AllocError, Global};
-
-pub const MOST_TURNS: u32 = 4096;
 
 /// Adds numbers in order, those that aren't there yet.
 fn add_all(numbers: &mut Numbers, more: &[u32]) -> Result<(), AllocError>
@@ -124,8 +122,8 @@ pub fn numbers_of(alloc: Global, shader: &Shader) -> Result<Numbers, AllocError>
     ensures { IfOk result (λ numbers. numbers ≡ numbers_of (program_of shader.now)) }
 {
     let mut numbers = Numbers::new(alloc);
-    add_below(&mut numbers, BINDINGS)?;
-    add_all(&mut numbers, &[MOST_TURNS, 0xffff_ffff])?;
+    add_below(&mut numbers, MODULE_BINDINGS)?;
+    add_all(&mut numbers, &[LOOP_TURNS, 0xffff_ffff])?;
     add_declared(&mut numbers, shader.declared())?;
     add_nodes(&mut numbers, shader.body())?;
     Ok(numbers)

@@ -49,8 +49,6 @@ pub const LENGTHS: u32 = 21;
 /// The buffer of the first binding.
 pub const FIRST_BUFFER: u32 = 22;
 
-pub const BINDINGS: u32 = 38;
-
 pub const MAIN: u32 = 60;
 
 /// The first of the module's numbers.

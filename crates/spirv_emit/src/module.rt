@@ -14,10 +14,11 @@ ghost use Rattle.spirv_emit.specs.Code.{body_end};
 ghost use Rattle.spirv_emit.specs.Emits.{layout_of, Puts, Appends, Ready, function_code};
 
 use crate::code::Code;
-use crate::collect::{MOST_TURNS, numbers_of};
+use crate::collect::numbers_of;
 use crate::ids::{FIRST_NUMBER, MAIN, MAIN_TYPE, TO_VARIABLE, VOID_TYPE, WORD_TYPE};
 use crate::nodes::{Exits, emit_nodes};
 use crate::plan::Plan;
+use dx_types::limits::LOOP_TURNS;
 use shader_model::Shader;
 use spirv_words::Builder;
 use std::alloc::{AllocError, Global};
@@ -82,7 +83,7 @@ impl Code {
         requires some { 0 < plan.now.variables }
         ensures { let at = layout_of plan.now in OnOk result (Appends self.old self.new (variables at) (id.first_code at)) }
     {
-        self.local(plan, MOST_TURNS)?;
+        self.local(plan, LOOP_TURNS)?;
         self.locals(plan, plan.variables - 1)?;
         Ok(())
     }
@@ -116,7 +117,7 @@ fn emit_function(plan: &Plan, shader: &Shader, code: &mut Code) -> Result<(), Al
 /// How many temporaries a shader has, which are at most 4,096.
 fn temps_of(shader: &Shader) -> u32
     ensures value { result ≡ shader.now.temps }
-    ensures few { result ≤ 4096 }
+    ensures few { result ≤ LOOP_TURNS }
     ensures good { IsGood (program_of shader.now) }
 {
     let _body = shader.body();

@@ -10,10 +10,11 @@ ghost use Rattle.spirv_emit.specs.Emits.{Puts, decorations_of_blocks, decoration
 
 use crate::code::Code;
 use crate::ids::{
-    ARRAY_TYPE, BINDINGS, BUFFER_BLOCK, FIRST_BUFFER, GLOBAL_ID, GROUP_ID, LENGTHS, LENGTHS_BLOCK,
-    MAIN, MAIN_TYPE, PAIR_TYPE, THREAD_ID, THREAD_INDEX, TO_BUFFER, TO_INPUT_VECTOR, TO_INPUT_WORD,
+    ARRAY_TYPE, BUFFER_BLOCK, FIRST_BUFFER, GLOBAL_ID, GROUP_ID, LENGTHS, LENGTHS_BLOCK, MAIN,
+    MAIN_TYPE, PAIR_TYPE, THREAD_ID, THREAD_INDEX, TO_BUFFER, TO_INPUT_VECTOR, TO_INPUT_WORD,
     TO_LENGTH, TO_LENGTHS, TO_VARIABLE, TO_WORD, TRUTH_TYPE, VECTOR_TYPE, VOID_TYPE, WORD_TYPE,
 };
+use dx_types::limits::MODULE_BINDINGS;
 use std::alloc::AllocError;
 
 const SHADER: u32 = 1;
@@ -135,9 +136,9 @@ impl Code {
     }
 
     fn decorate_lengths(&mut self) -> Result<(), AllocError>
-        ensures { OnOk result (Puts self.old self.new (map offset_of (from_on 0 38))) }
+        ensures { OnOk result (Puts self.old self.new (map offset_of (from_on 0 MODULE_BINDINGS))) }
     {
-        for binding in 0..BINDINGS {
+        for binding in 0..MODULE_BINDINGS {
             self.member_decorate(LENGTHS_BLOCK, binding, OFFSET, 4 * binding)?;
         }
         Ok(())
@@ -145,7 +146,7 @@ impl Code {
 
     /// The descriptor set and the binding of a buffer.
     fn decorate_buffer(&mut self, binding: u32) -> Result<(), AllocError>
-        requires { binding < 38 }
+        requires { binding < MODULE_BINDINGS }
         ensures { OnOk result (Puts self.old self.new (place_of binding)) }
     {
         let buffer = FIRST_BUFFER + binding;
@@ -155,9 +156,9 @@ impl Code {
     }
 
     fn decorate_buffers(&mut self) -> Result<(), AllocError>
-        ensures { OnOk result (Puts self.old self.new (flat_map place_of (from_on 0 38))) }
+        ensures { OnOk result (Puts self.old self.new (flat_map place_of (from_on 0 MODULE_BINDINGS))) }
     {
-        for binding in 0..BINDINGS {
+        for binding in 0..MODULE_BINDINGS {
             self.decorate_buffer(binding)?;
         }
         Ok(())

@@ -10,21 +10,18 @@ use crate::piece::{Action, Calculation, Leaf, Piece, Spot};
 use crate::sources::{NOUGHT, source};
 use crate::variables::result;
 use dx_types::Form;
+use dx_types::limits::{FIRST_SRV_BINDING, FIRST_UAV_BINDING};
 use shader_model::{Declared, Instr, SlotUse, Target};
 use std::alloc::AllocError;
-
-const FIRST_READ: u32 = 14;
-
-const FIRST_WRITE: u32 = 30;
 
 /// The binding of a slot.
 fn binding_of(slot: &SlotUse) -> u32
     ensures { result ≡ lower.binding_of slot.now }
 {
     if slot.writable {
-        FIRST_WRITE + u32::from(slot.slot)
+        FIRST_UAV_BINDING + u32::from(slot.slot)
     } else {
-        FIRST_READ + u32::from(slot.slot)
+        FIRST_SRV_BINDING + u32::from(slot.slot)
     }
 }
 

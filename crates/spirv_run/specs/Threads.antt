@@ -1,5 +1,6 @@
 -- The ids of an invocation whose numbers stay below 32 bits.
 use Rattle.std.specs.Prelude.{ℕ, ◌+◌, ◌*◌, ◌<◌, ◌≤◌, List, slice_index}
+use Rattle.dx_types.specs.declared.limits.TheConstants.{MAX_GROUPS, MAX_INVOCATIONS}
 use Rattle.shader_model.specs.declared.ids.Ids.{Ids}
 use Rattle.shader_model.specs.Invocation.{flattened, global}
 use Rattle.shader_model.specs.Dispatch.{volume}
@@ -12,5 +13,5 @@ pub record IsPlaced (ids : Ids) : Type 0 where
 
 -- groups of a size that may be dispatched
 pub record IsAllowed (groups size : List ℕ) : Type 0 where
-  pub each : (c : ℕ) → c < 3 → slice_index groups c ≤ 65535
-  pub count : volume groups * volume size ≤ 16777216
+  pub each : (c : ℕ) → c < 3 → slice_index groups c ≤ MAX_GROUPS
+  pub count : volume groups * volume size ≤ MAX_INVOCATIONS

@@ -18,6 +18,3 @@ mod thread;
 mod value;
 
 pub use machine::Machine;
-
-#[cfg(test)]
-mod tests;

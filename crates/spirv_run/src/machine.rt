@@ -3,6 +3,7 @@
 ghost use Rattle.std.specs.Prelude.{◌≡◌, ◌*◌, ◌<◌, ◌≤◌, ℕ, slice_index, IfOk, Some};
 ghost use Rattle.shader_model.specs.Dispatch.{volume};
 ghost use Rattle.spirv_words.specs.Meaning.ModuleDispatch.{IsDefined, group_of, module_dispatched};
+ghost use Rattle.dx_types.specs.declared.limits.TheConstants.{MAX_GROUPS, MAX_INVOCATIONS};
 
 use crate::dispatch::run_groups;
 use crate::frame::Frame;
@@ -51,8 +52,8 @@ impl<'a> Machine<'a> {
     /// Runs the invocations of so many groups in index order, and answers how many ran. It takes no memory.
     pub fn dispatch(&mut self, groups: [u32; 3], slots: &mut Slots<'_>) -> u64
         requires defined { IsDefined self.old }
-        requires groups { (c : ℕ) → c < 3 → slice_index groups c ≤ 65535 }
-        requires count { volume groups * volume (group_of self.old) ≤ 16777216 }
+        requires groups { (c : ℕ) → c < 3 → slice_index groups c ≤ MAX_GROUPS }
+        requires count { volume groups * volume (group_of self.old) ≤ MAX_INVOCATIONS }
         ensures words { Some slots.new.words ≡ module_dispatched self.old groups slots.old.words }
         ensures around { slots.new.around ≡ slots.old.around }
         ensures count { result ≡ volume groups * volume (group_of self.old) }

@@ -15,6 +15,7 @@ use crate::operations::{new_if_equal, new_word};
 use crate::step::Next;
 use crate::thread::Thread;
 use crate::value::{Pointer, Value};
+use dx_types::limits::MODULE_BINDINGS;
 use shader_slots::Slots;
 use spirv_words::AtomicCode;
 
@@ -24,7 +25,7 @@ pub fn member(slots: &Slots<'_>, base: Option<Value>, index: Option<Value>) -> O
 {
     match (base, index) {
         (Some(Value::At(Pointer::Lengths)), Some(Value::Word(binding))) => {
-            if binding < bindings::END {
+            if binding < MODULE_BINDINGS {
                 Some(Value::At(Pointer::Length(binding)))
             } else {
                 None

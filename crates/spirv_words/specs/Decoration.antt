@@ -1,5 +1,6 @@
 -- The decorations, and the values that they take (SPIR-V 1.6, section 3.20).
 use Rattle.std.specs.Prelude.{ℕ, ◌*◌, ◌==◌, if◌then◌else◌, Bool, true, ◌&&◌, ◌||◌, nat_lt, nat_le, Option, Some, None}
+use Rattle.dx_types.specs.declared.limits.TheConstants.{MODULE_BINDINGS}
 
 abbrev pub block : ℕ
 block = 2
@@ -34,7 +35,7 @@ is_built_in v = nat_le 26 v && nat_le v 29
 
 -- how many bindings there are: 14 of constants, 16 of resources, 8 of unordered access views
 abbrev pub bindings : ℕ
-bindings = 38
+bindings = MODULE_BINDINGS
 
 -- a decoration takes this value: arrays are of words, and all buffers stand in the descriptor set 0
 abbrev pub takes_value : (decoration value : ℕ) → Bool

@@ -8,6 +8,7 @@ ghost use Rattle.spirv_words.specs.FirstBad.{first_fault};
 use crate::fault::{ModuleFault, ModuleKind};
 use crate::known::Known;
 use crate::verdict::{first_wrong, shape};
+use dx_types::limits::MODULE_BINDINGS;
 
 /// The rule of each word of a list of operands.
 #[derive(Clone, Copy)]
@@ -36,8 +37,6 @@ const BINDING: u32 = 33;
 
 const DESCRIPTOR_SET: u32 = 34;
 
-const BINDINGS: u32 = 38;
-
 /// Whether a decoration takes a value.
 fn takes_value(decoration: u32, value: u32) -> bool
     ensures { result ≡ decorations.takes_value decoration value }
@@ -45,7 +44,7 @@ fn takes_value(decoration: u32, value: u32) -> bool
     match decoration {
         ARRAY_STRIDE => value == 4,
         BUILT_IN => 26 <= value && value <= 29,
-        BINDING => value < BINDINGS,
+        BINDING => value < MODULE_BINDINGS,
         DESCRIPTOR_SET => value == 0,
         _ => true,
     }

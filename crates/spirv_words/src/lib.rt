@@ -42,6 +42,3 @@ pub use fault::{ModuleFault, ModuleKind};
 pub use front::{FrontView, front_of};
 pub use module::{Module, read_module};
 pub use op::Op;
-
-#[cfg(test)]
-mod tests;

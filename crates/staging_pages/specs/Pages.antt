@@ -4,6 +4,7 @@ use Rattle.std.specs.List.{remove}
 use Rattle.buffer_blocks.specs.declared.block.Block.{Block}
 use Rattle.buffer_blocks.specs.Block.{bytes_of}
 use Rattle.staging_pages.specs.PageState.{PageState}
+use Rattle.dx_types.specs.declared.limits.TheConstants.{PAGE_BYTES}
 
 abbrev pub is_long_enough : ℕ → Block → Bool
 is_long_enough len page = nat_le len (length (bytes_of page))
@@ -22,7 +23,7 @@ pub record IsNewPage (number len : ℕ) (page : PageState) : Type 0 where
 -- the page at this place of those that came back is taken, or a new one where there is no such place
 abbrev pub TakesPageAt : List Block → ℕ → ℕ → PageState → List Block → Option ℕ → Type 0
 TakesPageAt old number len page new (Some at) = (page ≡ unused (slice_index_or old at page.block)) × (new ≡ remove old at)
-TakesPageAt old number len page new None = IsNewPage number (max len 1048576) page × (new ≡ old)
+TakesPageAt old number len page new None = IsNewPage number (max len PAGE_BYTES) page × (new ≡ old)
 
 -- the first page that came back and is long enough is taken, or a new one where none is
 abbrev pub TakesPage : List Block → ℕ → ℕ → PageState → List Block → Type 0

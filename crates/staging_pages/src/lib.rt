@@ -6,6 +6,3 @@ mod pages;
 
 pub use page::Page;
 pub use pages::Pages;
-
-#[cfg(test)]
-mod tests;

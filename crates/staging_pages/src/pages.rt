@@ -1,14 +1,13 @@
 ghost use Rattle.std.specs.Prelude.{◌≡◌, ◌≤◌, ◌++◌, ◌∷◌, [], IfOk, OnOk, OnErr, None, position};
 ghost use Rattle.staging_pages.specs.Pages.{TakesPage, is_long_enough};
+ghost use Rattle.dx_types.specs.declared.limits.TheConstants.{MAX_BUFFER_SIZE};
 
 use crate::page::Page;
 use buffer_blocks::Block;
 use dx_types::BlockNo;
+use dx_types::limits::PAGE_BYTES;
 use std::alloc::{AllocError, Global};
 use std::marker::Model;
-
-/// How many bytes a new page has at least.
-const PAGE_LEN: u64 = 1_048_576;
 
 /// The pages that came back, in that order.
 #[derive(Drop)]
@@ -44,13 +43,13 @@ impl Pages {
     /// there is none, a new page of this number, of `len` bytes or of 1,048,576 if `len` is less. A lack of
     /// memory changes nothing.
     pub fn next(&mut self, number: BlockNo, len: u64) -> Result<Page, AllocError>
-        requires { len ≤ 16777216 }
+        requires { len ≤ MAX_BUFFER_SIZE }
         ensures ok { IfOk result (λ page. TakesPage self.old number len page self.new) }
         ensures err { OnErr result (self.new ≡ self.old) }
         ensures memory { OnErr result (position (is_long_enough len) self.old ≡ None) }
     {
         let Some(i) = first_long_enough(&self.kept, len) else {
-            let block = Block::new(self.alloc, number, len.max(PAGE_LEN))?;
+            let block = Block::new(self.alloc, number, len.max(PAGE_BYTES))?;
             return Ok(Page::new(block));
         };
         Ok(Page::new(self.kept.remove(i)))

@@ -24,9 +24,6 @@ mod submit;
 pub use finish::{FinishPart, Finished};
 pub use submit::SubmitPart;
 
-#[cfg(test)]
-mod tests;
-
 /// Laws of the shaders that a batch's dispatches name. They are those that its commands need. So those of the operations that are
 /// made of a chunk's items are what the commands made of them need; and in every state that steps reach from the start, by any
 /// choices, those of a batch that stands for a chunk which was handed over are what the chunk's commands need.

@@ -8,6 +8,3 @@ mod visible;
 
 pub use hazards::{Uncovered, covered};
 pub use order::{OrderEnd, allowed};
-
-#[cfg(test)]
-mod tests;

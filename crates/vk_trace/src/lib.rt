@@ -16,6 +16,3 @@ pub use laws::one_spelling;
 pub use read::read_ops;
 pub use trace_end::TraceEnd;
 pub use write::print_ops;
-
-#[cfg(test)]
-mod tests;

@@ -30,9 +30,6 @@ pub use op::{Barrier, VkOp};
 pub use slot_list::SlotList;
 pub use touch::Touch;
 
-#[cfg(test)]
-mod tests;
-
 /// Laws of effects, whatever a shader means by the words of its slots. A command changes only bytes that its touches
 /// write, and what it writes, whether it is skipped, and how many invocations it runs depend only on bytes that its touches
 /// read. The host's writes and reads are local to their ranges in the same way.

@@ -1,16 +1,17 @@
 -- How the bindings of a module name the slots of a dispatch: 0 to 13 the constant buffers, 14 to 29 the resources, 30 to
 -- 37 the unordered access views.
 use Rattle.std.specs.Prelude.{ℕ, ◌-◌, ◌<◌, ◌≤◌, if◌then◌else◌, nat_lt, nat_le, Bool, ◌&&◌, List, [], length, slice_set, All}
+use Rattle.dx_types.specs.declared.limits.TheConstants.{FIRST_SRV_BINDING, FIRST_UAV_BINDING, MAX_BUFFER_WORDS, MODULE_BINDINGS}
 use Rattle.shader_model.specs.Invocation.{Slots, words_in}
 
 abbrev pub first_read : ℕ
-first_read = 14
+first_read = FIRST_SRV_BINDING
 
 abbrev pub first_write : ℕ
-first_write = 30
+first_write = FIRST_UAV_BINDING
 
 abbrev pub end_of_bindings : ℕ
-end_of_bindings = 38
+end_of_bindings = MODULE_BINDINGS
 
 -- the words of a binding's slot; there are none where nothing fits there
 abbrev pub words_at : Slots → (binding : ℕ) → List ℕ
@@ -30,5 +31,5 @@ with_word b i v slots = record slots { writes = slice_set slots.writes (b - firs
 
 -- no slot has more words than a buffer of 16,777,216 bytes, and each is a word of 32 bits
 pub record SlotsFit (slots : Slots) : Type 0 where
-  pub lengths : (b : ℕ) → length (words_at slots b) ≤ 4194304
+  pub lengths : (b : ℕ) → length (words_at slots b) ≤ MAX_BUFFER_WORDS
   pub words : (b : ℕ) → All (λ w. w < 4294967296) (words_at slots b)

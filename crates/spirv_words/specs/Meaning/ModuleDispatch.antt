@@ -1,5 +1,6 @@
 -- A dispatch of a module: its invocations in index order.
 use Rattle.std.specs.Prelude.{ℕ, ◌<◌, ◌≡◌, List, [], ◌∷◌, slice_index, length, Option, Some, None, IsSome}
+use Rattle.dx_types.specs.declared.limits.TheConstants.{MAX_GROUPS}
 use Rattle.shader_model.specs.declared.ids.Ids.{Ids}
 use Rattle.shader_model.specs.Invocation.{Slots}
 use Rattle.shader_model.specs.Dispatch.{invocations}
@@ -39,9 +40,9 @@ pub record InRange (size : List ℕ) (ids : Ids) : Type 0 where
   pub thread_x : slice_index ids.thread 0 < slice_index size 0
   pub thread_y : slice_index ids.thread 1 < slice_index size 1
   pub thread_z : slice_index ids.thread 2 < slice_index size 2
-  pub group_x : slice_index ids.group 0 < 65535
-  pub group_y : slice_index ids.group 1 < 65535
-  pub group_z : slice_index ids.group 2 < 65535
+  pub group_x : slice_index ids.group 0 < MAX_GROUPS
+  pub group_y : slice_index ids.group 1 < MAX_GROUPS
+  pub group_z : slice_index ids.group 2 < MAX_GROUPS
 
 -- a module that may be dispatched: each invocation has an outcome, on all slots that fit
 abbrev pub IsDefined : (words : List ℕ) → Type 0

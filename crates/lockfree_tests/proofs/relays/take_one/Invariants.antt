@@ -1,0 +1,5 @@
+use Rattle.std.proofs.Common.{◌≡◌}
+use Rattle.lockfree_tests.proofs.relays.take_one.Given as goal
+
+abbrev pub invariant-tries : goal.invariant-tries
+invariant-tries g l = l.pass ≡ l.initial.pass

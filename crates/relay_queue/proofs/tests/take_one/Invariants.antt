@@ -1,5 +1,0 @@
-use Rattle.std.proofs.Common.{◌≡◌}
-use Rattle.relay_queue.proofs.tests.take_one.Given as goal
-
-abbrev pub invariant-tries : goal.invariant-tries
-invariant-tries g l = l.pass ≡ l.initial.pass
