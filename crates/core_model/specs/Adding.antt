@@ -129,13 +129,13 @@ abbrev pub staged_command : ℕ → Range → Option Range → Option Cond → C
 staged_command call source None skip core = core
 staged_command call source (Some target) skip core = plays_command call (work.Copy source (range_on core.blocks target)) (cond_on core.blocks skip) core
 
--- the length of the block of a buffer, and how it is had
+-- the length of the block of a buffer: its class's, or its own where it has none
+abbrev pub length_by : Script → ℕ → Option ℕ → ℕ
+length_by script buffer None = script.size buffer
+length_by script buffer (Some class) = class_length class
+
 abbrev pub length_of : Script → ℕ → ℕ
-length_of script buffer = by_class (script.class buffer)
-  where
-    by_class : Option ℕ → ℕ
-    by_class None = script.size buffer
-    by_class (Some class) = class_length class
+length_of script buffer = length_by script buffer (script.class buffer)
 
 -- the number of the chunk that retired a block last, and 0 of a new one
 abbrev pub retired_by : Owner → ℕ

@@ -13,7 +13,7 @@ use Rattle.core_model.specs.Chunking.{chunks, cut}
 use Rattle.core_model.specs.CoreState.{Segment, entries, flat, Message, Owner, Unmade, Home, Returning, Spare, Live, Retired, Paged, Dropped, Core, of_messages, of_running, rests, segments, later, on_device, listed, taken_count, finished_count, handed_count, open_number, Said, Bytes_said, Value_said, Still_said, Refused_said, End_said}
 use Rattle.core_model.specs.Readings.{Reading, has_place}
 use Rattle.core_model.specs.Adding.{has_block}
-use Rattle.core_model.specs.OtherParts.{used_in, sum_from}
+use Rattle.core_model.specs.OtherParts.{used_in, needed_in, sum_from}
 use Rattle.core_model.specs.Stands.{Stands, touches_block, is_host_write, is_host_read}
 use Rattle.core_model.specs.Listed.{IsListed, IsCounted}
 use Rattle.core_model.specs.Worlds.{empty, run_world}
@@ -74,19 +74,21 @@ Numbered k (s ∷ ss) = AllByRecursion (λ x. x.chunk ≡ suc k) (entries s) × 
 abbrev pub IsShaped : Segment → Type 0
 IsShaped s = AllByRecursion (λ x. is_host_read x.act ≡ true) s.reads × AllByRecursion (λ x. is_host_write x.act ≡ true) s.writes × AllByRecursion (λ x. is_host x.act ≡ false) s.commands
 
--- each block that a segment's commands touch is bound there
-abbrev pub BindsTouches : Segment → Type 0
-BindsTouches s = AllByRecursion (λ x. is_host x.act ≡ false → (b i : ℕ) → is_touched (act_touches x.act) b i ≡ true → has_block b s.bound ≡ true) s.commands
+-- each block that a segment's commands touch is bound there, and each that it names as a staging buffer's
+abbrev pub BindsUses : Segment → Type 0
+BindsUses s =
+    AllByRecursion (λ x. is_host x.act ≡ false → (b i : ℕ) → is_touched (act_touches x.act) b i ≡ true → has_block b s.bound ≡ true) s.commands
+    × ((b : ℕ) → has_block b s.staging ≡ true → has_block b s.bound ≡ true)
 
 -- an act touches ranges that have a byte
 abbrev pub IsFilled : Entry → Type 0
 IsFilled x = AllByRecursion (λ t. t.range.from < t.range.to) (act_touches x.act)
 
--- a copy of a block is the block as the listing up to here leaves it. It is there where the chunk uses the staging buffer and
--- no chunk after it does
+-- a copy of a block is the block as the listing up to here leaves it. It is there where the chunk names the staging buffer's block
+-- and no chunk after it names or touches it
 pub record SnapRight (meaning : Meaning) (upto : List Entry) (m : Message) (after : List Segment) : Type 0 where
   pub right : (b : ℕ) (bytes : ℕ → ℕ) → m.snaps b ≡ Some bytes → (i : ℕ) → bytes i ≡ run_entries meaning upto zeros b i
-  pub there : (b : ℕ) → has_block b m.segment.staging ≡ true → used_in after b ≡ false → (bytes : ℕ → ℕ) × (m.snaps b ≡ Some bytes)
+  pub there : (b : ℕ) → has_block b m.segment.staging ≡ true → needed_in after b ≡ false → (bytes : ℕ → ℕ) × (m.snaps b ≡ Some bytes)
   pub none : (b : ℕ) → has_block b m.segment.staging ≡ false → m.snaps b ≡ None
 
 abbrev pub SnapsRight : Meaning → List Entry → List Message → List Segment → Type 0
@@ -149,7 +151,7 @@ pub record Sound (meaning : Meaning) (reading : Reading) (script : Script) (core
   pub since : (b : ℕ) → IsSince (finished_count core) (core.owner b)
   pub numbered : Numbered 0 (segments core)
   pub shaped : AllByRecursion IsShaped (segments core)
-  pub binds : AllByRecursion BindsTouches (segments core)
+  pub binds : AllByRecursion BindsUses (segments core)
   pub filled : AllByRecursion IsFilled (listed core)
   pub within : AllByRecursion (λ r. Sublist r.rest r.segment.commands) core.accepted
   -- the commands that are not run, run in the listing's order, complete what the device holds

@@ -15,6 +15,8 @@ use Rattle.core_model.specs.Chunking.{call_of, ends_call, is_entry}
 use Rattle.core_model.specs.CoreState.{class_length}
 use Rattle.core_model.specs.Owners.{in_ranges}
 use Rattle.core_model.specs.Queries.{marks_from}
+use Rattle.core_model.specs.OtherParts.{created, shaders_of_work, is_among}
+use Rattle.core_model.specs.Formed.{PlayIsFormed}
 
 -- what a play's command touches, over buffers
 abbrev pub target_touches : Option Range → List Touch
@@ -87,11 +89,19 @@ abbrev pub last_end : ℕ → List Turn → Option ℕ → Option ℕ
 last_end query [] found = found
 last_end query (t ∷ ts) found = last_end query ts (cond (ends_query query t) (Some (call_of t)) found)
 
--- a call that asks names its last use among the turns before it. A query of another sort has one before it
+-- the turn is an item of this call
+abbrev pub is_item_of : ℕ → Turn → Bool
+is_item_of n (Refused call) = false
+is_item_of n (Passed call) = false
+is_item_of n (Flushed call) = false
+is_item_of n (Asked call ask used may_pend) = false
+is_item_of n (Item call item ends play bound) = call == n
+
+-- a call that asks names its last use among the turns before it: of a query of another sort, the call of some item
 abbrev pub UsesRightly : List Turn → ℕ → Ask → Option ℕ → Type 0
 UsesRightly front call (Bytes source) used = used ≡ last_binding source.block front None
 UsesRightly front call (Count query) used = used ≡ last_end query front None
-UsesRightly front call (Constant value) used = (n : ℕ) × (used ≡ Some n) × (n < call)
+UsesRightly front call (Constant value) used = (n : ℕ) × (used ≡ Some n) × (n < call) × (list_any (is_item_of n) front ≡ true)
 
 -- a range of a buffer that lives when the turns before it were taken
 abbrev pub Fits : Meaning → Script → List Turn → Range → Type 0
@@ -119,6 +129,18 @@ PlaysRightly meaning script front call Create_shader = Unit {0}
 -- a query that is begun is ended before it is begun anew, and none is ended that is not begun
 PlaysRightly meaning script front call (Mark_query query begins) = is_begun query (marks_from 0 front) false ≡ not begins
 PlaysRightly meaning script front call Set_state = Unit {0}
+
+-- the shaders that a play's command runs
+abbrev pub play_shaders : Play → List ℕ
+play_shaders (Create buffer bytes) = []
+play_shaders (Discard buffer from bytes) = []
+play_shaders (No_overwrite buffer from bytes) = []
+play_shaders (Stage bytes target skip) = []
+play_shaders (Command w skip) = shaders_of_work w
+play_shaders (Destroy buffer) = []
+play_shaders Create_shader = []
+play_shaders (Mark_query query begins) = []
+play_shaders Set_state = []
 
 -- a play that may bind ranges: bytes that are staged, a command, and what a predicate skips
 abbrev pub may_bind : Play → Bool
@@ -158,12 +180,19 @@ pub record IsLawful (meaning : Meaning) (script : Script) : Type 0 where
   -- calls are numbered from 1 on, and rise from turn to turn, where no list goes on
   pub numbers : (front : List Turn) (t : Turn) (back : List Turn) → script.turns ≡ front ++ t ∷ back → 0 < call_of t
   pub calls : (front : List Turn) (t u : Turn) (back : List Turn) → script.turns ≡ front ++ t ∷ u ∷ back → ComesNext t u
+  -- the last turn ends its call
+  pub ends : (front : List Turn) (t : Turn) → script.turns ≡ front ++ t ∷ [] → ends_call t ≡ true
   pub uses : (front : List Turn) (call : ℕ) (ask : Ask) (used : Option ℕ) (may_pend : Bool) (back : List Turn)
       → script.turns ≡ front ++ Asked call ask used may_pend ∷ back → UsesRightly front call ask used
   pub asks : (front : List Turn) (call : ℕ) (ask : Ask) (used : Option ℕ) (may_pend : Bool) (back : List Turn)
       → script.turns ≡ front ++ Asked call ask used may_pend ∷ back → AsksRightly meaning script front ask
   pub plays : (front : List Turn) (call item : ℕ) (ends : Bool) (play : Play) (bound : List Range) (back : List Turn)
       → script.turns ≡ front ++ Item call item ends play bound ∷ back → PlaysRightly meaning script front call play
+  -- a command is one that a device can do, and its shader is created by an item before it
+  pub formed : (front : List Turn) (call item : ℕ) (ends : Bool) (play : Play) (bound : List Range) (back : List Turn)
+      → script.turns ≡ front ++ Item call item ends play bound ∷ back → PlayIsFormed play
+  pub shaders : (front : List Turn) (call item : ℕ) (ends : Bool) (play : Play) (bound : List Range) (back : List Turn)
+      → script.turns ≡ front ++ Item call item ends play bound ∷ back → AllByRecursion (λ shader. is_among shader (created front) ≡ true) (play_shaders play)
   -- what is bound, and what a command touches, fits and has a byte, and what it touches is bound
   pub fits : (front : List Turn) (call item : ℕ) (ends : Bool) (play : Play) (bound : List Range) (back : List Turn)
       → script.turns ≡ front ++ Item call item ends play bound ∷ back → AllByRecursion (λ r. Fits meaning script front r × (r.from < r.to)) bound
@@ -174,6 +203,7 @@ pub record IsLawful (meaning : Meaning) (script : Script) : Type 0 where
   pub binds : (front : List Turn) (call item : ℕ) (ends : Bool) (play : Play) (bound : List Range) (back : List Turn)
       → script.turns ≡ front ++ Item call item ends play bound ∷ back
       → (b i : ℕ) → is_touched (play_touches play) b i ≡ true → in_ranges bound b i ≡ true
+  pub sizes : (buffer : ℕ) → script.size buffer ≤ MAX_BUFFER_SIZE
   pub classes : (buffer : ℕ) → ClassFits script buffer (script.class buffer)
   pub staging : (buffer : ℕ) → script.is_staging buffer ≡ true → script.class buffer ≡ None
   pub few : (front back : List Turn) → script.turns ≡ front ++ back → FewLive script (in_order meaning script front at_start).live

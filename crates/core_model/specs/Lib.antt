@@ -15,7 +15,9 @@ pub mod Runs
 pub mod Stands
 pub mod Batching
 pub mod Succession
+pub mod Formed
 pub mod Lawful
+pub mod Gaps
 pub mod WorkedLogs
 pub mod Worlds
 pub mod Free
@@ -31,3 +33,6 @@ pub mod Filling
 pub mod Batches
 pub mod Messages
 pub mod Marked
+pub mod Ends
+pub mod HostBytes
+pub mod Stills

@@ -11,6 +11,7 @@ use Rattle.core_model.specs.Script.{Create, Discard, No_overwrite, Stage, Comman
 use Rattle.core_model.specs.Chunking.{last_call}
 use Rattle.core_model.specs.CoreState.{Segment, Running, of_running, last_finished}
 use Rattle.core_model.specs.Adding.{has_block}
+use Rattle.core_model.specs.Stands.{touches_block}
 use Rattle.vk_types.specs.declared.command.Work.TheVariants as work
 use Rattle.vk_types.specs.declared.command.Command as c
 
@@ -58,15 +59,28 @@ ready_among earlier [] = []
 ready_among earlier (x ∷ xs) =
     cond (list_any (λ y. entry_before y x) earlier) (ready_among (earlier ++ x ∷ []) xs) (x ∷ ready_among (earlier ++ x ∷ []) xs)
 
--- the block is used by one of these ranges
+-- what these chunks bind uses the block
 abbrev pub used_in : List Segment → ℕ → Bool
 used_in [] block = false
 used_in (s ∷ ss) block = has_block block s.bound || used_in ss block
 
--- a completion has a copy of each staging buffer that the batch uses and does not destroy, and that no later accepted
--- batch uses
+-- an act of these has the block in its touches
+abbrev pub acts_touch : List Entry → ℕ → Bool
+acts_touch xs block = list_any (λ x. touches_block x.act block) xs
+
+-- what the device sees of a batch uses the block: the batch names it as a staging buffer's, or a host write or a command of the batch
+-- touches it
+abbrev pub needs_block : Segment → ℕ → Bool
+needs_block s block = has_block block s.staging || (acts_touch s.writes block || acts_touch s.commands block)
+
+abbrev pub needed_in : List Segment → ℕ → Bool
+needed_in [] block = false
+needed_in (s ∷ ss) block = needs_block s block || needed_in ss block
+
+-- a completion has a copy of each staging buffer that the batch uses and does not destroy, and that no later accepted batch
+-- names or touches
 abbrev pub snaps_of : Segment → List Running → Memory → ℕ → Option (ℕ → ℕ)
-snaps_of s rs memory block = cond (has_block block s.staging && not (used_in (of_running rs) block)) (Some (memory block)) None
+snaps_of s rs memory block = cond (has_block block s.staging && not (needed_in (of_running rs) block)) (Some (memory block)) None
 
 -- the query marks of all chunks up to one
 abbrev pub all_marks : List Segment → List QueryMark

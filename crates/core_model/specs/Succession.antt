@@ -22,6 +22,7 @@ use Rattle.core_model.specs.Chunking.{ItemNo, items, chunks, chunk_turns, upto, 
 use Rattle.core_model.specs.Renaming.{BlockMap}
 use Rattle.core_model.specs.CoreState.{has_class, class_length, somes}
 use Rattle.core_model.specs.Owners.{is_block}
+use Rattle.core_model.specs.Adding.{length_of}
 use Rattle.core_model.specs.OtherParts.{is_among}
 use Rattle.core_model.specs.Batching.{Written, Made, made, batch_ops}
 
@@ -152,18 +153,14 @@ pub record HasPages (pages : List Block) (here : List Placed) : Type 0 where
 
 -- The blocks of a chunk, batch or submission -----------------------------------------------------------------------------
 
-abbrev pub length_by : Script → ℕ → Option ℕ → ℕ
-length_by script buffer None = script.size buffer
-length_by script buffer (Some class) = class_length class
-
 -- the lengths of the blocks that the items take
 abbrev pub lengths_of : Script → Turn → List ℕ
 lengths_of script (Refused call) = []
 lengths_of script (Passed call) = []
 lengths_of script (Flushed call) = []
 lengths_of script (Asked call ask used may_pend) = []
-lengths_of script (Item call item ends (Create buffer bytes) bound) = length_by script buffer (script.class buffer) ∷ []
-lengths_of script (Item call item ends (Discard buffer from bytes) bound) = length_by script buffer (script.class buffer) ∷ []
+lengths_of script (Item call item ends (Create buffer bytes) bound) = length_of script buffer ∷ []
+lengths_of script (Item call item ends (Discard buffer from bytes) bound) = length_of script buffer ∷ []
 lengths_of script (Item call item ends (No_overwrite buffer from bytes) bound) = []
 lengths_of script (Item call item ends (Stage bytes target skip) bound) = []
 lengths_of script (Item call item ends (Command w skip) bound) = []
@@ -264,51 +261,61 @@ pub record ChunkView : Type 0 where
   pub blocks : List Block
   pub pages : List Block
 
-pub record FollowsChunk (log : Log) (before : List ChunkView) (m : ChunkView) : Type 0 where
-  pub head : FollowsHead log (map (λ h. h.head) before) m.head
-  pub pages : HasPages m.pages m.head.placed
-  pub blocks : HasBlocks log.script (suc (length before)) m.blocks m.head.placed
+-- the places of messages, and what is made of them when one more comes behind them
+abbrev pub places_in : List Head → List (List Placed)
+places_in hs = map (λ h. h.placed) hs
 
-pub record FollowsBatch (log : Log) (before : List Batch) (m : Batch) : Type 0 where
-  pub head : FollowsHead log (map batch_head before) (batch_head m)
+abbrev pub made_by : Log → List Head → Head → Made
+made_by log front m = made log.script (places_in front ++ m.placed ∷ [])
+
+-- A message of each kind may stand behind messages with these heads, of whatever kinds those are
+
+pub record ChunkBy (log : Log) (front : List Head) (m : ChunkView) : Type 0 where
+  pub head : FollowsHead log front m.head
+  pub pages : HasPages m.pages m.head.placed
+  pub blocks : HasBlocks log.script (suc (length front)) m.blocks m.head.placed
+
+pub record BatchBy (log : Log) (front : List Head) (m : Batch) : Type 0 where
+  pub head : FollowsHead log front (batch_head m)
   pub pages : HasPages m.pages.items m.placed.items
-  pub blocks : HasBlocks log.script (suc (length before)) m.blocks.items m.placed.items
-  pub does : DoesChunk log.script log.part (map (λ b. b.placed.items) before ++ m.placed.items ∷ []) m
+  pub blocks : HasBlocks log.script (suc (length front)) m.blocks.items m.placed.items
+  pub does : DoesChunk log.script log.part (places_in front ++ m.placed.items ∷ []) m
+
+abbrev pub SubmissionBy : Log → List Head → Submission → Type 0
+SubmissionBy log front m = BatchBy log front m.batch
+
+pub record CompletionBy (log : Log) (front : List Head) (m : Completion) : Type 0 where
+  pub head : FollowsHead log front (completion_head m)
+  pub pages : HasPages m.pages.items m.placed.items
+  pub ops : m.ops.items ≡ batch_ops (made_by log front (completion_head m)) m.number
+  pub homes : HasHomes (suc (length front)) m.homes.items m.placed.items
+  pub snaps : AllByRecursion (IsSnap log.meaning log.script (suc (length front)) (made_by log front (completion_head m)).blocks) m.snaps.items
+  pub values : m.values.items ≡ values_after log.meaning log.script (suc (length front))
+
+pub record PostBy (log : Log) (front : List Head) (m : Post) : Type 0 where
+  pub head : FollowsHead log front (post_head m)
+  pub pages : HasPages m.pages.items m.placed.items
+  pub ops : m.ops.items ≡ batch_ops (made_by log front (post_head m)) m.number
+  pub snaps : AllByRecursion (IsSnap log.meaning log.script (suc (length front)) (made_by log front (post_head m)).blocks) m.snaps.items
+  pub values : m.values.items ≡ values_after log.meaning log.script (suc (length front))
+
+-- A message comes after those of its own kind before it
+
+abbrev pub FollowsChunk : Log → List ChunkView → ChunkView → Type 0
+FollowsChunk log before m = ChunkBy log (map (λ h. h.head) before) m
+
+abbrev pub FollowsBatch : Log → List Batch → Batch → Type 0
+FollowsBatch log before m = BatchBy log (map batch_head before) m
 
 abbrev pub FollowsSubmission : Log → List Submission → Submission → Type 0
-FollowsSubmission log before m = FollowsBatch log (map (λ s. s.batch) before) m.batch
+FollowsSubmission log before m = SubmissionBy log (map (λ s. batch_head s.batch) before) m
 
--- the blocks of the buffers after the messages, and the operations of the last one
-abbrev pub made_by : Log → List Head → Head → Made
-made_by log before m = made log.script (map (λ h. h.placed) before ++ m.placed ∷ [])
+abbrev pub FollowsCompletion : Log → List Completion → Completion → Type 0
+FollowsCompletion log before m = CompletionBy log (map completion_head before) m
 
-pub record FollowsCompletion (log : Log) (before : List Completion) (m : Completion) : Type 0 where
-  pub head : FollowsHead log (map completion_head before) (completion_head m)
-  pub pages : HasPages m.pages.items m.placed.items
-  pub ops : m.ops.items ≡ batch_ops (made_by log (map completion_head before) (completion_head m)) m.number
-  pub homes : HasHomes (suc (length before)) m.homes.items m.placed.items
-  pub snaps : AllByRecursion (IsSnap log.meaning log.script (suc (length before)) (made_by log (map completion_head before) (completion_head m)).blocks) m.snaps.items
-  pub values : m.values.items ≡ values_after log.meaning log.script (suc (length before))
+abbrev pub FollowsPost : Log → List Post → Post → Type 0
+FollowsPost log before m = PostBy log (map post_head before) m
 
-pub record FollowsPost (log : Log) (before : List Post) (m : Post) : Type 0 where
-  pub head : FollowsHead log (map post_head before) (post_head m)
-  pub pages : HasPages m.pages.items m.placed.items
-  pub ops : m.ops.items ≡ batch_ops (made_by log (map post_head before) (post_head m)) m.number
-  pub snaps : AllByRecursion (IsSnap log.meaning log.script (suc (length before)) (made_by log (map post_head before) (post_head m)).blocks) m.snaps.items
-  pub values : m.values.items ≡ values_after log.meaning log.script (suc (length before))
-
--- the first message comes after none
-abbrev pub FirstChunk : Log → ChunkView → Type 0
-FirstChunk log m = FollowsChunk log [] m
-
-abbrev pub FirstBatch : Log → Batch → Type 0
-FirstBatch log m = FollowsBatch log [] m
-
-abbrev pub FirstSubmission : Log → Submission → Type 0
-FirstSubmission log m = FollowsSubmission log [] m
-
-abbrev pub FirstCompletion : Log → Completion → Type 0
-FirstCompletion log m = FollowsCompletion log [] m
-
-abbrev pub FirstPost : Log → Post → Type 0
-FirstPost log m = FollowsPost log [] m
+-- each of these heads follows those before it
+abbrev pub Succeeds : Log → List Head → Type 0
+Succeeds log hs = (front : List Head) (h : Head) (back : List Head) → hs ≡ front ++ h ∷ back → FollowsHead log front h

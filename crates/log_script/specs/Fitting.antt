@@ -3,8 +3,10 @@ use Rattle.std.specs.Prelude.{◌≡◌, ℕ, ◌+◌, ◌==◌, ◌<◌, ◌≤
 use Rattle.std.specs.List.{AllByRecursion}
 use Rattle.dx_types.specs.declared.shape.Shape.{Shape}
 use Rattle.dx_types.specs.declared.range.ResRange.{ResRange}
-use Rattle.dx_types.specs.declared.limits.TheConstants.{MAX_CONSTANT_SIZE}
+use Rattle.dx_types.specs.declared.limits.TheConstants.{CONSTANT_BUFFER, MAX_CONSTANT_SIZE}
+use Rattle.vk_types.specs.Lists.{Pairwise}
 use Rattle.call_log.specs.Call.{Call}
+use Rattle.d3d_model.specs.Check.{has}
 use Rattle.d3d_model.specs.IdMap.{get}
 use Rattle.d3d_model.specs.View.{view_range}
 use Rattle.d3d_model.specs.Binding as binding
@@ -26,13 +28,14 @@ pub record LivesAndFits (o : Objects) (r : ResRange) : Type 0 where
 abbrev pub ShaderLives : Objects → ℕ → Type 0
 ShaderLives o id = (id == 0) || is_live_shader o id ≡ true
 
--- a constant slot shows as many bytes as one can, of a live buffer that has a byte. It is cut to the buffer as it is bound
+-- a constant slot shows as many bytes as one can, of a live buffer of constants that has a byte. It is cut to the buffer as it is bound
 pub record ConstantLives (o : Objects) (r : ResRange) : Type 0 where
   pub starts : r.from ≡ 0
   pub ends : r.to ≡ MAX_CONSTANT_SIZE
   pub shape : Shape
   pub lives : buffer_of o r.res ≡ Some shape
   pub has_byte : 0 < shape.size
+  pub constants : has shape.bind CONSTANT_BUFFER ≡ true
 
 abbrev pub ConstantFits : Objects → Option ResRange → Type 0
 ConstantFits o None = ⊤
@@ -60,6 +63,17 @@ pub record SetFits (o : Objects) (b : Bindings) : Type 0 where
   pub srvs : AllByRecursion (ViewFits o) b.srvs
   pub uavs : AllByRecursion (ViewFits o) b.uavs
   pub predicate : WordFits o b.predicate
+
+-- two slots show views of two buffers, if both show one
+abbrev pub Distinct : Option BoundView → Option BoundView → Type 0
+Distinct None t = ⊤
+Distinct (Some v) None = ⊤
+Distinct (Some v) (Some w) = v.shape.res ≡ w.shape.res → ⊥
+
+-- a buffer that is set for unordered access is set in no other view slot (Direct3D 11.3, hazards of the compute stage)
+pub record ViewsApart (b : Bindings) : Type 0 where
+  pub srvs : AllByRecursion (λ u. AllByRecursion (Distinct u) b.srvs) b.uavs
+  pub uavs : Pairwise Distinct b.uavs
 
 -- ---- the calls of a list
 

@@ -7,10 +7,12 @@ use Rattle.dx_types.specs.declared.range.ResRange.{ResRange}
 use Rattle.dx_types.specs.declared.shape.Shape.{Shape}
 use Rattle.dx_types.specs.declared.limits.TheConstants.{MAX_BUFFER_SIZE}
 use Rattle.d3d_model.specs.Resource.{is_dynamic, is_staging, size_of}
-use Rattle.d3d_model.specs.D3dState.{buffer_of}
+use Rattle.d3d_model.specs.IdMap.{IdMap, get}
+use Rattle.d3d_model.specs.D3dState.{Shader, buffer_of}
 use Rattle.d3d_model.specs.InOrder.{State}
 use Rattle.core_model.specs.Script.{Play, Create, Discard, No_overwrite, Stage, Destroy, Ask, Bytes, Turn, Asked, Item}
-use Rattle.core_model.specs.Lawful.{play_touches}
+use Rattle.core_model.specs.Formed.{PlayIsFormed}
+use Rattle.core_model.specs.Lawful.{play_touches, play_shaders}
 use Rattle.log_script.specs.Makers.{maker, of_makers}
 use Rattle.log_script.specs.Fitting.{LivesAndFits}
 
@@ -59,11 +61,20 @@ PlayFits s n made (Stage bytes target skip) = (length bytes ≤ MAX_BUFFER_SIZE)
 PlayFits s n made (Destroy buffer) = DestroysLive s buffer
 PlayFits s n made _ = ⊤
 
--- an item of call n
+-- a shader is named by the call that created it, and it is live
+pub record RunsLive (shaders : IdMap Shader) (call_made : ℕ) : Type 0 where
+  pub id : ℕ
+  pub shader : Shader
+  pub lives : get shaders id ≡ Some shader
+  pub call : shader.call ≡ call_made
+
+-- an item of call n: its command is one that a device can do, and runs a live shader
 pub record ItemFits (s : State) (n : ℕ) (made : Option Shape) (play : Play) (bound : List Range) : Type 0 where
   pub binds : BoundFits s bound
   pub plays : PlayFits s n made play
   pub filled : AllByRecursion (λ t. t.range.from < t.range.to) (play_touches play)
+  pub formed : PlayIsFormed play
+  pub runs : AllByRecursion (RunsLive s.objects.shaders) (play_shaders play)
 
 -- a turn of call n
 abbrev pub TurnFits : State → ℕ → Option Shape → Turn → Type 0

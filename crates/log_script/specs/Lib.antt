@@ -11,3 +11,4 @@ pub mod Agreeing
 pub mod Said
 pub mod Answered
 pub mod RunText
+pub mod Promise

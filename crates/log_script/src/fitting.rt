@@ -12,14 +12,15 @@ ghost use Rattle.d3d_model.specs.InOrder.{before_call, after_calls};
 ghost use Rattle.d3d_model.specs.Uses.{bound};
 ghost use Rattle.core_model.specs.Script.{Play, Turn, Item};
 ghost use Rattle.core_model.specs.Lawful.{play_touches};
-ghost use Rattle.log_script.specs.Fitting.{LivesAndFits, SetFits, ListFits};
+ghost use Rattle.log_script.specs.Fitting.{LivesAndFits, SetFits, ListFits, ViewsApart};
 ghost use Rattle.log_script.specs.FittingTurns.{TurnFits};
 ghost use Rattle.log_script.specs.LogScript.{shape_made, script_of};
 ghost use Rattle.log_script.specs.Turns.{turns_of};
 
 /// Whatever a call binds, by itself or through the list that it executes, lies in buffers that live when it comes. What is set
 /// on each context stays inside live objects, and each call of an open or a live list binds such bytes, on the bindings that
-/// it meets there. Each live buffer has a byte, and each live view lies in a live buffer.
+/// it meets there. Each live buffer has a byte, and each live view lies in a live buffer. A buffer that is set for
+/// unordered access is set in no other view slot.
 pub fn bound_bytes_live_and_fit()
     ensures bound { (log : List Issued) (n : ℕ) → AllByRecursion (LivesAndFits (before_call log n).objects) (bound log n) }
     ensures set { (log : List Issued) (n x : ℕ) → SetFits (after_calls log n).objects (bindings_of (after_calls log n).objects x) }
@@ -29,6 +30,7 @@ pub fn bound_bytes_live_and_fit()
         → get (after_calls log n).objects.lists id ≡ Some cs → ListFits (after_calls log n).objects default_bindings cs }
     ensures views { (log : List Issued) (n id : ℕ) (v : ViewShape)
         → get (after_calls log n).objects.views id ≡ Some v → LivesAndFits (after_calls log n).objects (view_range v) }
+    ensures apart { (log : List Issued) (n x : ℕ) → ViewsApart (bindings_of (after_calls log n).objects x) }
     ensures buffers { (log : List Issued) (n id : ℕ) (s : Shape) → buffer_of (after_calls log n).objects id ≡ Some s → 0 < s.size }
 {}
 

@@ -28,7 +28,7 @@ pub use checked::checked_calls_stand;
 pub use fitting::{bound_bytes_live_and_fit, turns_fit_live_buffers};
 pub use lawful::scripts_are_lawful;
 pub use meaning::scripts_mean_what_logs_mean;
-pub use promise::every_run_answers_as_direct3d;
+pub use promise::{every_run_answers_as_direct3d, every_run_keeps_the_promise};
 pub use query_laws::scripts_use_queries_in_turn;
 pub use text::every_run_writes_the_text;
 pub use turn_laws::{

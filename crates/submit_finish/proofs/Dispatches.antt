@@ -25,8 +25,8 @@ use Rattle.core_model.specs.Lawful.{IsLawful}
 use Rattle.core_model.specs.Messages.{IsBatch}
 use Rattle.core_model.specs.Readings.{Reading}
 use Rattle.core_model.specs.Succession.{Log}
-use Rattle.core_model.proofs.Placements.{places_of}
-use Rattle.core_model.proofs.Messaging.{kept, known, is_made, listed_there}
+use Rattle.core_model.proofs.Messages.Placements.{places_of}
+use Rattle.core_model.proofs.Messages.Messaging.{kept, known, is_made, listed_there}
 use Rattle.submit_finish.specs.Dispatched.{shader_of_work, dispatched, commands_among}
 
 -- Commands among operations ------------------------------------------------------------------------------------------------

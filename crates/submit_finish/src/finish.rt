@@ -1,7 +1,7 @@
-ghost use Rattle.std.specs.Prelude.{◌≡◌, suc, List, map, length};
+ghost use Rattle.std.specs.Prelude.{◌≡◌, suc, List, length};
 ghost use Rattle.vk_types.specs.declared.message.Completion.{Completion};
 ghost use Rattle.vk_types.specs.declared.message.Post.{Post};
-ghost use Rattle.core_model.specs.Succession.{Log, completion_head, post_head, HasHomes, FollowsCompletion, FollowsPost};
+ghost use Rattle.core_model.specs.Succession.{Head, Log, HasHomes, CompletionBy, PostBy};
 ghost use Rattle.submit_finish.specs.Posts.{post_of};
 
 use buffer_blocks::Block;
@@ -29,12 +29,11 @@ impl FinishPart {
         ensures post { result.post ≡ post_of c }
         ensures homes { result.homes.items ≡ c.homes.items }
 
-        // Where the completion may stand behind earlier ones, so may the post behind theirs, and these are the blocks that
-        // its marks send home.
-        ensures follows { (log : Log) (earlier : List Completion) (before : List Post)
-            → map post_head before ≡ map completion_head earlier → FollowsCompletion log earlier c → FollowsPost log before result.post }
-        ensures at_home { (log : Log) (earlier : List Completion)
-            → FollowsCompletion log earlier c → HasHomes (suc (length earlier)) result.homes.items result.post.placed.items }
+        // Where the completion may stand behind messages with these heads, so may the post, and these are the blocks that its
+        // marks send home.
+        ensures follows { (log : Log) (front : List Head) → CompletionBy log front c → PostBy log front result.post }
+        ensures at_home { (log : Log) (front : List Head)
+            → CompletionBy log front c → HasHomes (suc (length front)) result.homes.items result.post.placed.items }
     {
         let Completion {
             number,

@@ -1,6 +1,5 @@
-ghost use Rattle.std.specs.Prelude.{◌≡◌, List, map, slice_get};
-ghost use Rattle.vk_types.specs.declared.message.Submission.{Submission};
-ghost use Rattle.core_model.specs.Succession.{Log, FollowsBatch, FollowsSubmission};
+ghost use Rattle.std.specs.Prelude.{◌≡◌, List, slice_get};
+ghost use Rattle.core_model.specs.Succession.{Head, Log, BatchBy, SubmissionBy};
 ghost use Rattle.submit_finish.specs.Dispatched.{shader_of_work, shader_of_op, dispatched};
 
 use dx_types::CallNo;
@@ -26,8 +25,7 @@ impl SubmitPart {
     /// The batch as it goes to the device. It is moved, and takes no memory.
     pub fn step(&mut self, b: Batch) -> Submission
         ensures batch { result.batch ≡ b }
-        ensures follows { (log : Log) (before : List Submission)
-            → FollowsBatch log (map (λ s. s.batch) before) b → FollowsSubmission log before result }
+        ensures follows { (log : Log) (front : List Head) → BatchBy log front b → SubmissionBy log front result }
     {
         Submission { batch: b }
     }

@@ -1,4 +1,4 @@
-use Rattle.log_script.proofs.BoundLaws.{reads_its_last_use, overwrites_unbound}
+use Rattle.log_script.proofs.Owed.BoundLaws.{reads_its_last_use, overwrites_unbound}
 use Rattle.log_script.proofs.binding.scripts_know_what_is_bound.Goals as goal
 
 pub returns : goal.returns

@@ -1,7 +1,7 @@
 use Rattle.d3d_model.specs.InOrder.{after_calls}
 use Rattle.log_script.specs.LogScript.{meaning_of, script_of}
-use Rattle.log_script.proofs.BufferMakers.{all_made, one_maker}
-use Rattle.log_script.proofs.LiveBuffers.{are_live}
+use Rattle.log_script.proofs.Owed.BufferMakers.{all_made, one_maker}
+use Rattle.log_script.proofs.Owed.LiveBuffers.{are_live}
 use Rattle.log_script.proofs.buffers.buffers_are_named_by_their_calls.Goals as goal
 
 pub returns : goal.returns

@@ -1,5 +1,5 @@
 use Rattle.log_script.specs.LogScript.{meaning_of}
-use Rattle.log_script.proofs.FewDynamic.{few_at}
+use Rattle.log_script.proofs.Owed.FewDynamic.{few_at}
 use Rattle.log_script.proofs.buffers.few_dynamic_buffers_live.Goals as goal
 
 pub returns : goal.returns

@@ -5,8 +5,8 @@ use Rattle.vk_types.specs.Memory.{range, byte_of, byte_in, byte_in_words, number
 use Rattle.d3d_model.specs.Regions.{put, filled, slice, spelled}
 use Rattle.d3d_model.proofs.Sized.{length-put, length-filled}
 use Rattle.core_model.specs.Script.{padded}
-use Rattle.log_script.proofs.ByteLists.{number_is, filled_at, padded_is, length-slice, slice_at, length-spelled, spelled_at}
-use Rattle.log_script.proofs.Showing.{shows_put, shows_whole, shows_repeated, byte_there, word_at_place, bytes_read, words_read, result_is}
+use Rattle.log_script.proofs.Meant.ByteLists.{number_is, filled_at, padded_is, length-slice, slice_at, length-spelled, spelled_at}
+use Rattle.log_script.proofs.Meant.Showing.{shows_put, shows_whole, shows_repeated, byte_there, word_at_place, bytes_read, words_read, result_is}
 use Rattle.log_script.proofs.bytes.lists_and_memory_agree.Goals as goal
 
 pub returns-clause-writes : goal.returns-clause-writes

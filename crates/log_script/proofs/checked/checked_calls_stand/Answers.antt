@@ -1,6 +1,6 @@
 use Rattle.d3d_model.specs.InOrder.{before_call}
-use Rattle.log_script.proofs.StandingCalls.{accepted_stands, lists_stand}
-use Rattle.log_script.proofs.WholeViews.{whole_views}
+use Rattle.log_script.proofs.Owed.StandingCalls.{accepted_stands, lists_stand}
+use Rattle.log_script.proofs.Owed.WholeViews.{whole_views}
 use Rattle.log_script.proofs.checked.checked_calls_stand.Goals as goal
 
 pub returns : goal.returns

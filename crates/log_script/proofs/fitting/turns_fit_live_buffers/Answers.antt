@@ -2,8 +2,8 @@ use Rattle.d3d_model.specs.InOrder.{before_call}
 use Rattle.core_model.specs.Script.{Item}
 use Rattle.log_script.specs.LogScript.{shape_made}
 use Rattle.log_script.specs.FittingTurns.{TurnFits}
-use Rattle.log_script.proofs.FittingTurns.{turns_fit}
-use Rattle.log_script.proofs.EachTurn.{each_turn}
+use Rattle.log_script.proofs.Owed.FittingTurns.{turns_fit}
+use Rattle.log_script.proofs.Owed.EachTurn.{each_turn}
 use Rattle.log_script.proofs.fitting.turns_fit_live_buffers.Goals as goal
 
 pub returns : goal.returns

@@ -1,4 +1,4 @@
-use Rattle.log_script.proofs.LawfulScripts.{lawful}
+use Rattle.log_script.proofs.Owed.LawfulScripts.{lawful}
 use Rattle.log_script.proofs.lawful.scripts_are_lawful.Goals as goal
 
 pub returns : goal.returns

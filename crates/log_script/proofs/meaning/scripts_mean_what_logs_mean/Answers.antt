@@ -1,6 +1,6 @@
 use Rattle.core_model.specs.Script.{Bytes, Count, Constant}
-use Rattle.log_script.proofs.AgreeingLogs.{agrees_at}
-use Rattle.log_script.proofs.AgreeingReplies.{answered_at}
+use Rattle.log_script.proofs.Meant.AgreeingLogs.{agrees_at}
+use Rattle.log_script.proofs.Meant.AgreeingReplies.{answered_at}
 use Rattle.log_script.proofs.meaning.scripts_mean_what_logs_mean.Goals as goal
 
 pub returns : goal.returns

@@ -1,5 +1,5 @@
 use Rattle.core_model.specs.Script.{Mark_query, Count, Constant, Asked, Item}
-use Rattle.log_script.proofs.QueriesInTurn.{script_right}
+use Rattle.log_script.proofs.Owed.QueriesInTurn.{script_right}
 use Rattle.log_script.proofs.query_laws.scripts_use_queries_in_turn.Goals as goal
 
 pub returns-clause-marks : goal.returns-clause-marks

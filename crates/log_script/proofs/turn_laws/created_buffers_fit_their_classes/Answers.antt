@@ -1,4 +1,4 @@
-use Rattle.log_script.proofs.Classes.{fits, none}
+use Rattle.log_script.proofs.Owed.Classes.{fits, none}
 use Rattle.log_script.proofs.turn_laws.created_buffers_fit_their_classes.Goals as goal
 
 pub returns : goal.returns

@@ -1,4 +1,4 @@
-use Rattle.log_script.proofs.TurnsBound.{script_bound}
+use Rattle.log_script.proofs.Owed.TurnsBound.{script_bound}
 use Rattle.log_script.proofs.turn_laws.scripts_bind_what_they_touch.Goals as goal
 
 pub returns : goal.returns

@@ -1,4 +1,4 @@
-use Rattle.log_script.proofs.Numbering.{numbers, next}
+use Rattle.log_script.proofs.Owed.Numbering.{numbers, next}
 use Rattle.log_script.proofs.turn_laws.scripts_number_their_calls.Goals as goal
 
 pub returns : goal.returns

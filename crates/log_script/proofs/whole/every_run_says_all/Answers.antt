@@ -1,6 +1,6 @@
 use Rattle.log_script.specs.LogScript.{meaning_of, script_of}
-use Rattle.log_script.proofs.SaidSteps.{reached_tells}
-use Rattle.log_script.proofs.SaidRuns.{run_says}
+use Rattle.log_script.proofs.Promised.SaidSteps.{reached_tells}
+use Rattle.log_script.proofs.Promised.SaidRuns.{run_says}
 use Rattle.log_script.proofs.whole.every_run_says_all.Goals as goal
 
 pub returns : goal.returns

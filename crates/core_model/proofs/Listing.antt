@@ -1,0 +1,12 @@
+pub mod Worlds
+pub mod Reordering
+pub mod MoreListed
+pub mod Touched
+pub mod FromCommand
+pub mod RunOrder
+pub mod ActsAt
+pub mod HostBarriers
+pub mod RunCovered
+pub mod Growing
+pub mod CoreListing
+pub mod ReadOutcomes

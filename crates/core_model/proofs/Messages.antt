@@ -1,0 +1,16 @@
+pub mod ScriptChunks
+pub mod Placements
+pub mod ItemResults
+pub mod ItemCases
+pub mod Scenes
+pub mod Succeeding
+pub mod Making
+pub mod MadeLines
+pub mod ListedBatches
+pub mod PlacedPages
+pub mod PlacedLines
+pub mod StoodLines
+pub mod Following
+pub mod Messaging
+pub mod Copies
+pub mod BytesInTurn

@@ -1,0 +1,14 @@
+pub mod Counting
+pub mod InOrderCounts
+pub mod QueryMarks
+pub mod NewestValues
+pub mod InOrderQueries
+pub mod QueryCalls
+pub mod QueryAnswers
+pub mod QueryMoves
+pub mod QueryTurns
+pub mod CountsKept
+pub mod QueriesKept
+pub mod MarksInTurn
+pub mod EndValues
+pub mod RanCounts

@@ -1,5 +1,0 @@
-use Rattle.core_model.proofs.RanCounts.{listing_numbers, ran_counts}
-use Rattle.core_model.proofs.commands_count_in_order.Goals as goal
-
-pub returns : goal.returns
-returns c = record { numbers = listing_numbers; counts = ran_counts }

@@ -1,6 +1,0 @@
-use Rattle.core_model.proofs.RunOrder.{same_order}
-use Rattle.core_model.proofs.RunCovered.{run_covered}
-use Rattle.core_model.proofs.counts_order_runs.Goals as goal
-
-pub returns : goal.returns
-returns c = record { alike = same_order; covered = run_covered }

@@ -1,5 +1,0 @@
-use Rattle.core_model.proofs.Choices.{step_free, core_free, run_free}
-use Rattle.core_model.proofs.first_choices_are_free.Goals as goal
-
-pub returns : goal.returns
-returns c = record { step = step_free; core_step = core_free; run = run_free }

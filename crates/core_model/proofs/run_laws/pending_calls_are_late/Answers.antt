@@ -1,0 +1,5 @@
+use Rattle.core_model.proofs.Runs.StillAnswers.{stills_right}
+use Rattle.core_model.proofs.run_laws.pending_calls_are_late.Goals as goal
+
+pub returns : goal.returns
+returns c = record { stills = stills_right }

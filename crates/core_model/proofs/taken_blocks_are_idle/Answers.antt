@@ -1,5 +1,0 @@
-use Rattle.core_model.proofs.RunsKept.{taken_strange, taken_idle, page_idle}
-use Rattle.core_model.proofs.taken_blocks_are_idle.Goals as goal
-
-pub returns : goal.returns
-returns c = record { strange = taken_strange; idle = taken_idle; pages = page_idle }

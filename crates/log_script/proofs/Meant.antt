@@ -1,0 +1,13 @@
+pub mod ByteLists
+pub mod Showing
+pub mod AgreeingWrites
+pub mod AgreeingCommands
+pub mod AgreeingClears
+pub mod AgreeingSlots
+pub mod AgreeingDispatch
+pub mod AgreeingQueries
+pub mod AgreeingContexts
+pub mod AgreeingPlays
+pub mod AgreeingLists
+pub mod AgreeingLogs
+pub mod AgreeingReplies

@@ -1,0 +1,9 @@
+pub mod SaidSteps
+pub mod AnsweredTurns
+pub mod SaidTurns
+pub mod SaidRuns
+pub mod PendingReplies
+pub mod AnsweredReplies
+pub mod PendingMaps
+pub mod RunReplies
+pub mod Promise
