@@ -1,12 +1,15 @@
 -- A record is the one that spells its call.
-use Rattle.std.proofs.Common.{◌≡◌, ℕ, zero, suc, ◌+◌, ◌*◌, ◌%◌, ◌≤◌, Bool, true, false, cond, eqb, ltb, leb, List, [], ◌∷◌, ◌++◌, length, drop, Option, Some, None, refl, sym, ap, ◌∙◌, append_assoc, arith}
+use Rattle.std.proofs.Common.{◌≡◌, ℕ, zero, suc, ◌+◌, ◌*◌, ◌%◌, ◌≤◌, Bool, true, false, eqb, leb, ◌==◌, if◌then◌else◌, subst, List, [], ◌∷◌, ◌++◌, length, drop, Some, refl, sym, ap, ◌∙◌, append_assoc, arith}
 use Rattle.std.proofs.lemmas.Bool.{eqb-true, leb-true}
 use Rattle.std.proofs.lemmas.List.{length-drop, drop-drop, drop_all}
 use Rattle.byteorder.specs.Endian.{little_bytes, little_number}
-use Rattle.call_log.specs.declared.body.Layout.{Layout}
-use Rattle.call_log.specs.declared.body.Layout.TheVariants.{Words, Counted, Tokens}
-use Rattle.call_log.specs.Body.{word, layout, object_layout, setting_layout, work_layout, exchange_layout, fits, fits_known, fits_layout, call_of, object_call, setting_call, work_call, exchange_call, buffer_of, view_of, create_shader_of, query_of, destroy_of, set_shader_of, set_constant_of, set_srv_of, set_uav_of, dispatch_of, dispatch_indirect_of, copy_region_of, copy_of, update_of, clear_uav_of, set_predication_of, begin_of, end_query_of, map_write_of, map_read_of, get_data_of, finish_list_of, execute_list_of}
-use Rattle.call_log.specs.Call.{Call, ClearState, Flush}
+use Rattle.call_log.specs.declared.kinds.Layout.TheVariants.{Words, Counted, Tokens}
+use Rattle.call_log.specs.Body.{word, fits, fits_known, fits_layout, call_of, buffer_of, view_of, create_shader_of, query_of, destroy_of, set_shader_of, set_constant_of, set_srv_of, set_uav_of, dispatch_of, dispatch_indirect_of, copy_region_of, copy_of, update_of, clear_uav_of, set_predication_of, begin_of, end_query_of, map_write_of, map_read_of, get_data_of, finish_list_of, execute_list_of}
+use Rattle.std.specs.List.{AllByRecursion}
+use Rattle.std.specs.Option.{option_map}
+use Rattle.call_log.specs.declared.kinds.TheConstants.{BUFFER, VIEW, CREATE_SHADER, QUERY, DESTROY, SET_SHADER, SET_CONSTANT, SET_SRV, SET_UAV, CLEAR_STATE, DISPATCH, DISPATCH_INDIRECT, COPY_REGION, COPY, UPDATE, CLEAR_UAV, SET_PREDICATION, BEGIN, END_QUERY, MAP_WRITE, MAP_READ, GET_DATA, FLUSH, FINISH_LIST, EXECUTE_LIST}
+use Rattle.call_log.specs.Kinds.{Kind, kinds, kind_among, kind_numbered}
+use Rattle.call_log.specs.Call.{Call, ClearState, Flush, Draw}
 use Rattle.call_log.specs.Grammar.{Frame, IsFrame, AreBytes}
 use Rattle.call_log.specs.Put.{spell_words, kind_of_call, body_of_call, frame_of}
 use Rattle.call_log.proofs.Frames.{IsBytes, IsBytes-drop, both_true, four_0, four_1, four_2, four_3}
@@ -73,150 +76,235 @@ record IsSpelled (kind : ℕ) (body : List ℕ) (c : Call) : Type 0 where
   kind_is : kind_of_call c ≡ kind
   body_is : body_of_call c ≡ body
 
--- the calls of one kind, and of those behind it in a table
-by_kind : (kind k : ℕ) (b : Bool) → eqb kind k ≡ b → (body : List ℕ) (l m : Option Layout) (c d : Call) → fits_known (cond b l m) body ≡ true
-    → (kind ≡ k → fits_known l body ≡ true → IsSpelled kind body c) → (fits_known m body ≡ true → IsSpelled kind body d) → IsSpelled kind body (cond b c d)
-by_kind kind k true e body l m c d h this others = this (eqb-true _ _ e) h
-by_kind kind k false e body l m c d h this others = others h
-
-by_group : (kind : ℕ) (b : Bool) (body : List ℕ) (l m : Option Layout) (c d : Call) → fits_known (cond b l m) body ≡ true
-    → (fits_known l body ≡ true → IsSpelled kind body c) → (fits_known m body ≡ true → IsSpelled kind body d) → IsSpelled kind body (cond b c d)
-by_group kind true body l m c d h this others = this h
-by_group kind false body l m c d h this others = others h
-
-no_layout : (body : List ℕ) → fits_known None body ≡ true → ⊥
-no_layout body e = cc
-
-buffer_spelled : (kind : ℕ) (body : List ℕ) → IsBytes body → kind ≡ 1 → fits_layout (Counted 6) body ≡ true → IsSpelled kind body (buffer_of body)
-buffer_spelled kind body fits e f =
+buffer_spelled : (body : List ℕ) → IsBytes body → fits_layout (Counted 6) body ≡ true → IsSpelled BUFFER body (buffer_of body)
+buffer_spelled body fits f =
     let h : Counts 6 body = counts 6 body f in
-    record { kind_is = sym e; body_is = ap (λ (w : ℕ). spell_words (word 0 body ∷ word 1 body ∷ word 2 body ∷ word 3 body ∷ word 4 body ∷ word 5 body ∷ w ∷ []) ++ drop 28 body) h.size ∙ all_words 7 body fits h.long }
+    record { kind_is = refl; body_is = ap (λ (w : ℕ). spell_words (word 0 body ∷ word 1 body ∷ word 2 body ∷ word 3 body ∷ word 4 body ∷ word 5 body ∷ w ∷ []) ++ drop 28 body) h.size ∙ all_words 7 body fits h.long }
 
-view_spelled : (kind : ℕ) (body : List ℕ) → IsBytes body → kind ≡ 2 → fits_layout (Words 7) body ≡ true → IsSpelled kind body (view_of body)
-view_spelled kind body fits e f = record { kind_is = sym e; body_is = words_fit 7 body fits f }
+view_spelled : (body : List ℕ) → IsBytes body → fits_layout (Words 7) body ≡ true → IsSpelled VIEW body (view_of body)
+view_spelled body fits f = record { kind_is = refl; body_is = words_fit 7 body fits f }
 
-create_shader_spelled : (kind : ℕ) (body : List ℕ) → IsBytes body → kind ≡ 3 → fits_layout Tokens body ≡ true → IsSpelled kind body (create_shader_of body)
-create_shader_spelled kind body fits e f = record { kind_is = sym e; body_is = all_words 1 body fits (long_tokens body f) }
+create_shader_spelled : (body : List ℕ) → IsBytes body → fits_layout Tokens body ≡ true → IsSpelled CREATE_SHADER body (create_shader_of body)
+create_shader_spelled body fits f = record { kind_is = refl; body_is = all_words 1 body fits (long_tokens body f) }
 
-query_spelled : (kind : ℕ) (body : List ℕ) → IsBytes body → kind ≡ 4 → fits_layout (Words 2) body ≡ true → IsSpelled kind body (query_of body)
-query_spelled kind body fits e f = record { kind_is = sym e; body_is = words_fit 2 body fits f }
+query_spelled : (body : List ℕ) → IsBytes body → fits_layout (Words 2) body ≡ true → IsSpelled QUERY body (query_of body)
+query_spelled body fits f = record { kind_is = refl; body_is = words_fit 2 body fits f }
 
-destroy_spelled : (kind : ℕ) (body : List ℕ) → IsBytes body → kind ≡ 5 → fits_layout (Words 2) body ≡ true → IsSpelled kind body (destroy_of body)
-destroy_spelled kind body fits e f = record { kind_is = sym e; body_is = words_fit 2 body fits f }
+destroy_spelled : (body : List ℕ) → IsBytes body → fits_layout (Words 2) body ≡ true → IsSpelled DESTROY body (destroy_of body)
+destroy_spelled body fits f = record { kind_is = refl; body_is = words_fit 2 body fits f }
 
-set_shader_spelled : (kind : ℕ) (body : List ℕ) → IsBytes body → kind ≡ 16 → fits_layout (Words 1) body ≡ true → IsSpelled kind body (set_shader_of body)
-set_shader_spelled kind body fits e f = record { kind_is = sym e; body_is = words_fit 1 body fits f }
+set_shader_spelled : (body : List ℕ) → IsBytes body → fits_layout (Words 1) body ≡ true → IsSpelled SET_SHADER body (set_shader_of body)
+set_shader_spelled body fits f = record { kind_is = refl; body_is = words_fit 1 body fits f }
 
-set_constant_spelled : (kind : ℕ) (body : List ℕ) → IsBytes body → kind ≡ 17 → fits_layout (Words 2) body ≡ true → IsSpelled kind body (set_constant_of body)
-set_constant_spelled kind body fits e f = record { kind_is = sym e; body_is = words_fit 2 body fits f }
+set_constant_spelled : (body : List ℕ) → IsBytes body → fits_layout (Words 2) body ≡ true → IsSpelled SET_CONSTANT body (set_constant_of body)
+set_constant_spelled body fits f = record { kind_is = refl; body_is = words_fit 2 body fits f }
 
-set_srv_spelled : (kind : ℕ) (body : List ℕ) → IsBytes body → kind ≡ 18 → fits_layout (Words 2) body ≡ true → IsSpelled kind body (set_srv_of body)
-set_srv_spelled kind body fits e f = record { kind_is = sym e; body_is = words_fit 2 body fits f }
+set_srv_spelled : (body : List ℕ) → IsBytes body → fits_layout (Words 2) body ≡ true → IsSpelled SET_SRV body (set_srv_of body)
+set_srv_spelled body fits f = record { kind_is = refl; body_is = words_fit 2 body fits f }
 
-set_uav_spelled : (kind : ℕ) (body : List ℕ) → IsBytes body → kind ≡ 19 → fits_layout (Words 2) body ≡ true → IsSpelled kind body (set_uav_of body)
-set_uav_spelled kind body fits e f = record { kind_is = sym e; body_is = words_fit 2 body fits f }
+set_uav_spelled : (body : List ℕ) → IsBytes body → fits_layout (Words 2) body ≡ true → IsSpelled SET_UAV body (set_uav_of body)
+set_uav_spelled body fits f = record { kind_is = refl; body_is = words_fit 2 body fits f }
 
-clear_state_spelled : (kind : ℕ) (body : List ℕ) → IsBytes body → kind ≡ 20 → fits_layout (Words 0) body ≡ true → IsSpelled kind body ClearState
-clear_state_spelled kind body fits e f = record { kind_is = sym e; body_is = words_fit 0 body fits f }
+clear_state_spelled : (body : List ℕ) → IsBytes body → fits_layout (Words 0) body ≡ true → IsSpelled CLEAR_STATE body ClearState
+clear_state_spelled body fits f = record { kind_is = refl; body_is = words_fit 0 body fits f }
 
-dispatch_spelled : (kind : ℕ) (body : List ℕ) → IsBytes body → kind ≡ 32 → fits_layout (Words 3) body ≡ true → IsSpelled kind body (dispatch_of body)
-dispatch_spelled kind body fits e f = record { kind_is = sym e; body_is = words_fit 3 body fits f }
+dispatch_spelled : (body : List ℕ) → IsBytes body → fits_layout (Words 3) body ≡ true → IsSpelled DISPATCH body (dispatch_of body)
+dispatch_spelled body fits f = record { kind_is = refl; body_is = words_fit 3 body fits f }
 
-dispatch_indirect_spelled : (kind : ℕ) (body : List ℕ) → IsBytes body → kind ≡ 33 → fits_layout (Words 2) body ≡ true → IsSpelled kind body (dispatch_indirect_of body)
-dispatch_indirect_spelled kind body fits e f = record { kind_is = sym e; body_is = words_fit 2 body fits f }
+dispatch_indirect_spelled : (body : List ℕ) → IsBytes body → fits_layout (Words 2) body ≡ true → IsSpelled DISPATCH_INDIRECT body (dispatch_indirect_of body)
+dispatch_indirect_spelled body fits f = record { kind_is = refl; body_is = words_fit 2 body fits f }
 
-copy_region_spelled : (kind : ℕ) (body : List ℕ) → IsBytes body → kind ≡ 34 → fits_layout (Words 5) body ≡ true → IsSpelled kind body (copy_region_of body)
-copy_region_spelled kind body fits e f = record { kind_is = sym e; body_is = words_fit 5 body fits f }
+copy_region_spelled : (body : List ℕ) → IsBytes body → fits_layout (Words 5) body ≡ true → IsSpelled COPY_REGION body (copy_region_of body)
+copy_region_spelled body fits f = record { kind_is = refl; body_is = words_fit 5 body fits f }
 
-copy_spelled : (kind : ℕ) (body : List ℕ) → IsBytes body → kind ≡ 35 → fits_layout (Words 2) body ≡ true → IsSpelled kind body (copy_of body)
-copy_spelled kind body fits e f = record { kind_is = sym e; body_is = words_fit 2 body fits f }
+copy_spelled : (body : List ℕ) → IsBytes body → fits_layout (Words 2) body ≡ true → IsSpelled COPY body (copy_of body)
+copy_spelled body fits f = record { kind_is = refl; body_is = words_fit 2 body fits f }
 
-update_spelled : (kind : ℕ) (body : List ℕ) → IsBytes body → kind ≡ 36 → fits_layout (Counted 2) body ≡ true → IsSpelled kind body (update_of body)
-update_spelled kind body fits e f =
+update_spelled : (body : List ℕ) → IsBytes body → fits_layout (Counted 2) body ≡ true → IsSpelled UPDATE body (update_of body)
+update_spelled body fits f =
     let h : Counts 2 body = counts 2 body f in
-    record { kind_is = sym e; body_is = ap (λ (w : ℕ). spell_words (word 0 body ∷ word 1 body ∷ w ∷ []) ++ drop 12 body) h.size ∙ all_words 3 body fits h.long }
+    record { kind_is = refl; body_is = ap (λ (w : ℕ). spell_words (word 0 body ∷ word 1 body ∷ w ∷ []) ++ drop 12 body) h.size ∙ all_words 3 body fits h.long }
 
-clear_uav_spelled : (kind : ℕ) (body : List ℕ) → IsBytes body → kind ≡ 37 → fits_layout (Words 5) body ≡ true → IsSpelled kind body (clear_uav_of body)
-clear_uav_spelled kind body fits e f = record { kind_is = sym e; body_is = words_fit 5 body fits f }
+clear_uav_spelled : (body : List ℕ) → IsBytes body → fits_layout (Words 5) body ≡ true → IsSpelled CLEAR_UAV body (clear_uav_of body)
+clear_uav_spelled body fits f = record { kind_is = refl; body_is = words_fit 5 body fits f }
 
-set_predication_spelled : (kind : ℕ) (body : List ℕ) → IsBytes body → kind ≡ 38 → fits_layout (Words 4) body ≡ true → IsSpelled kind body (set_predication_of body)
-set_predication_spelled kind body fits e f = record { kind_is = sym e; body_is = words_fit 4 body fits f }
+set_predication_spelled : (body : List ℕ) → IsBytes body → fits_layout (Words 4) body ≡ true → IsSpelled SET_PREDICATION body (set_predication_of body)
+set_predication_spelled body fits f = record { kind_is = refl; body_is = words_fit 4 body fits f }
 
-begin_spelled : (kind : ℕ) (body : List ℕ) → IsBytes body → kind ≡ 39 → fits_layout (Words 1) body ≡ true → IsSpelled kind body (begin_of body)
-begin_spelled kind body fits e f = record { kind_is = sym e; body_is = words_fit 1 body fits f }
+begin_spelled : (body : List ℕ) → IsBytes body → fits_layout (Words 1) body ≡ true → IsSpelled BEGIN body (begin_of body)
+begin_spelled body fits f = record { kind_is = refl; body_is = words_fit 1 body fits f }
 
-end_query_spelled : (kind : ℕ) (body : List ℕ) → IsBytes body → kind ≡ 40 → fits_layout (Words 1) body ≡ true → IsSpelled kind body (end_query_of body)
-end_query_spelled kind body fits e f = record { kind_is = sym e; body_is = words_fit 1 body fits f }
+end_query_spelled : (body : List ℕ) → IsBytes body → fits_layout (Words 1) body ≡ true → IsSpelled END_QUERY body (end_query_of body)
+end_query_spelled body fits f = record { kind_is = refl; body_is = words_fit 1 body fits f }
 
-map_write_spelled : (kind : ℕ) (body : List ℕ) → IsBytes body → kind ≡ 48 → fits_layout (Counted 3) body ≡ true → IsSpelled kind body (map_write_of body)
-map_write_spelled kind body fits e f =
+map_write_spelled : (body : List ℕ) → IsBytes body → fits_layout (Counted 3) body ≡ true → IsSpelled MAP_WRITE body (map_write_of body)
+map_write_spelled body fits f =
     let h : Counts 3 body = counts 3 body f in
-    record { kind_is = sym e; body_is = ap (λ (w : ℕ). spell_words (word 0 body ∷ word 1 body ∷ word 2 body ∷ w ∷ []) ++ drop 16 body) h.size ∙ all_words 4 body fits h.long }
+    record { kind_is = refl; body_is = ap (λ (w : ℕ). spell_words (word 0 body ∷ word 1 body ∷ word 2 body ∷ w ∷ []) ++ drop 16 body) h.size ∙ all_words 4 body fits h.long }
 
-map_read_spelled : (kind : ℕ) (body : List ℕ) → IsBytes body → kind ≡ 49 → fits_layout (Words 4) body ≡ true → IsSpelled kind body (map_read_of body)
-map_read_spelled kind body fits e f = record { kind_is = sym e; body_is = words_fit 4 body fits f }
+map_read_spelled : (body : List ℕ) → IsBytes body → fits_layout (Words 4) body ≡ true → IsSpelled MAP_READ body (map_read_of body)
+map_read_spelled body fits f = record { kind_is = refl; body_is = words_fit 4 body fits f }
 
-get_data_spelled : (kind : ℕ) (body : List ℕ) → IsBytes body → kind ≡ 50 → fits_layout (Words 2) body ≡ true → IsSpelled kind body (get_data_of body)
-get_data_spelled kind body fits e f = record { kind_is = sym e; body_is = words_fit 2 body fits f }
+get_data_spelled : (body : List ℕ) → IsBytes body → fits_layout (Words 2) body ≡ true → IsSpelled GET_DATA body (get_data_of body)
+get_data_spelled body fits f = record { kind_is = refl; body_is = words_fit 2 body fits f }
 
-flush_spelled : (kind : ℕ) (body : List ℕ) → IsBytes body → kind ≡ 51 → fits_layout (Words 0) body ≡ true → IsSpelled kind body Flush
-flush_spelled kind body fits e f = record { kind_is = sym e; body_is = words_fit 0 body fits f }
+flush_spelled : (body : List ℕ) → IsBytes body → fits_layout (Words 0) body ≡ true → IsSpelled FLUSH body Flush
+flush_spelled body fits f = record { kind_is = refl; body_is = words_fit 0 body fits f }
 
-finish_list_spelled : (kind : ℕ) (body : List ℕ) → IsBytes body → kind ≡ 52 → fits_layout (Words 1) body ≡ true → IsSpelled kind body (finish_list_of body)
-finish_list_spelled kind body fits e f = record { kind_is = sym e; body_is = words_fit 1 body fits f }
+finish_list_spelled : (body : List ℕ) → IsBytes body → fits_layout (Words 1) body ≡ true → IsSpelled FINISH_LIST body (finish_list_of body)
+finish_list_spelled body fits f = record { kind_is = refl; body_is = words_fit 1 body fits f }
 
-execute_list_spelled : (kind : ℕ) (body : List ℕ) → IsBytes body → kind ≡ 53 → fits_layout (Words 2) body ≡ true → IsSpelled kind body (execute_list_of body)
-execute_list_spelled kind body fits e f = record { kind_is = sym e; body_is = words_fit 2 body fits f }
+execute_list_spelled : (body : List ℕ) → IsBytes body → fits_layout (Words 2) body ≡ true → IsSpelled EXECUTE_LIST body (execute_list_of body)
+execute_list_spelled body fits f = record { kind_is = refl; body_is = words_fit 2 body fits f }
 
-object_spelled : (kind : ℕ) (body : List ℕ) → IsBytes body → fits_known (object_layout kind) body ≡ true → IsSpelled kind body (object_call kind body)
-object_spelled kind body fits h =
-    by_kind kind 1 (eqb kind 1) refl body (Some (Counted 6)) _ (buffer_of body) _ h (buffer_spelled kind body fits) (λ h1.
-    by_kind kind 2 (eqb kind 2) refl body (Some (Words 7)) _ (view_of body) _ h1 (view_spelled kind body fits) (λ h2.
-    by_kind kind 3 (eqb kind 3) refl body (Some Tokens) _ (create_shader_of body) _ h2 (create_shader_spelled kind body fits) (λ h3.
-    by_kind kind 4 (eqb kind 4) refl body (Some (Words 2)) _ (query_of body) _ h3 (query_spelled kind body fits) (λ h4.
-    by_kind kind 5 (eqb kind 5) refl body (Some (Words 2)) _ (destroy_of body) _ h4 (destroy_spelled kind body fits) (λ h5.
-    absurd (no_layout body h5))))))
+-- what the bodies of a kind spell
+Spells : Kind → Type 0
+Spells k = (body : List ℕ) → IsBytes body → fits_layout k.layout body ≡ true → IsSpelled k.number body (call_of k.number body)
 
-setting_spelled : (kind : ℕ) (body : List ℕ) → IsBytes body → fits_known (setting_layout kind) body ≡ true → IsSpelled kind body (setting_call kind body)
-setting_spelled kind body fits h =
-    by_kind kind 16 (eqb kind 16) refl body (Some (Words 1)) _ (set_shader_of body) _ h (set_shader_spelled kind body fits) (λ h16.
-    by_kind kind 17 (eqb kind 17) refl body (Some (Words 2)) _ (set_constant_of body) _ h16 (set_constant_spelled kind body fits) (λ h17.
-    by_kind kind 18 (eqb kind 18) refl body (Some (Words 2)) _ (set_srv_of body) _ h17 (set_srv_spelled kind body fits) (λ h18.
-    by_kind kind 19 (eqb kind 19) refl body (Some (Words 2)) _ (set_uav_of body) _ h18 (set_uav_spelled kind body fits) (λ h19.
-    by_kind kind 20 (eqb kind 20) refl body (Some (Words 0)) _ ClearState _ h19 (clear_state_spelled kind body fits) (λ h20.
-    absurd (no_layout body h20))))))
+draw_spelled : (kind : ℕ) (body : List ℕ) → IsSpelled kind body (Draw kind body)
+unfolding spell_words
+draw_spelled kind body = record { kind_is = refl; body_is = refl }
 
-work_spelled : (kind : ℕ) (body : List ℕ) → IsBytes body → fits_known (work_layout kind) body ≡ true → IsSpelled kind body (work_call kind body)
-work_spelled kind body fits h =
-    by_kind kind 32 (eqb kind 32) refl body (Some (Words 3)) _ (dispatch_of body) _ h (dispatch_spelled kind body fits) (λ h32.
-    by_kind kind 33 (eqb kind 33) refl body (Some (Words 2)) _ (dispatch_indirect_of body) _ h32 (dispatch_indirect_spelled kind body fits) (λ h33.
-    by_kind kind 34 (eqb kind 34) refl body (Some (Words 5)) _ (copy_region_of body) _ h33 (copy_region_spelled kind body fits) (λ h34.
-    by_kind kind 35 (eqb kind 35) refl body (Some (Words 2)) _ (copy_of body) _ h34 (copy_spelled kind body fits) (λ h35.
-    by_kind kind 36 (eqb kind 36) refl body (Some (Counted 2)) _ (update_of body) _ h35 (update_spelled kind body fits) (λ h36.
-    by_kind kind 37 (eqb kind 37) refl body (Some (Words 5)) _ (clear_uav_of body) _ h36 (clear_uav_spelled kind body fits) (λ h37.
-    by_kind kind 38 (eqb kind 38) refl body (Some (Words 4)) _ (set_predication_of body) _ h37 (set_predication_spelled kind body fits) (λ h38.
-    by_kind kind 39 (eqb kind 39) refl body (Some (Words 1)) _ (begin_of body) _ h38 (begin_spelled kind body fits) (λ h39.
-    by_kind kind 40 (eqb kind 40) refl body (Some (Words 1)) _ (end_query_of body) _ h39 (end_query_spelled kind body fits) (λ h40.
-    absurd (no_layout body h40))))))))))
+each_spells : AllByRecursion Spells kinds
+unfolding Spells call_of
+each_spells = (
+  buffer_spelled,
+  (
+    view_spelled,
+    (
+      create_shader_spelled,
+      (
+        query_spelled,
+        (
+          destroy_spelled,
+          (
+            set_shader_spelled,
+            (
+              set_constant_spelled,
+              (
+                set_srv_spelled,
+                (
+                  set_uav_spelled,
+                  (
+                    clear_state_spelled,
+                    (
+                      dispatch_spelled,
+                      (
+                        dispatch_indirect_spelled,
+                        (
+                          copy_region_spelled,
+                          (
+                            copy_spelled,
+                            (
+                              update_spelled,
+                              (
+                                clear_uav_spelled,
+                                (
+                                  set_predication_spelled,
+                                  (
+                                    begin_spelled,
+                                    (
+                                      end_query_spelled,
+                                      (
+                                        map_write_spelled,
+                                        (
+                                          map_read_spelled,
+                                          (
+                                            get_data_spelled,
+                                            (
+                                              flush_spelled,
+                                              (
+                                                finish_list_spelled,
+                                                (
+                                                  execute_list_spelled,
+                                                  (
+                                                    λ body fits f. draw_spelled 64 body,
+                                                    (
+                                                      λ body fits f. draw_spelled 65 body,
+                                                      (
+                                                        λ body fits f. draw_spelled 66 body,
+                                                        (
+                                                          λ body fits f. draw_spelled 67 body,
+                                                          (
+                                                            λ body fits f. draw_spelled 68 body,
+                                                            (
+                                                              λ body fits f. draw_spelled 69 body,
+                                                              (
+                                                                λ body fits f. draw_spelled 70 body,
+                                                                (
+                                                                  λ body fits f. draw_spelled 71 body,
+                                                                  (
+                                                                    λ body fits f. draw_spelled 72 body,
+                                                                    (
+                                                                      λ body fits f. draw_spelled 73 body,
+                                                                      (
+                                                                        λ body fits f. draw_spelled 74 body,
+                                                                        (
+                                                                          λ body fits f. draw_spelled 75 body,
+                                                                          (
+                                                                            λ body fits f. draw_spelled 76 body,
+                                                                            (
+                                                                              λ body fits f. draw_spelled 77 body,
+                                                                              (
+                                                                                λ body fits f. draw_spelled 78 body,
+                                                                                (
+                                                                                  λ body fits f. draw_spelled 79 body,
+                                                                                  tt,
+                                                                                ),
+                                                                              ),
+                                                                            ),
+                                                                          ),
+                                                                        ),
+                                                                      ),
+                                                                    ),
+                                                                  ),
+                                                                ),
+                                                              ),
+                                                            ),
+                                                          ),
+                                                        ),
+                                                      ),
+                                                    ),
+                                                  ),
+                                                ),
+                                              ),
+                                            ),
+                                          ),
+                                        ),
+                                      ),
+                                    ),
+                                  ),
+                                ),
+                              ),
+                            ),
+                          ),
+                        ),
+                      ),
+                    ),
+                  ),
+                ),
+              ),
+            ),
+          ),
+        ),
+      ),
+    ),
+  ),
+)
 
-exchange_spelled : (kind : ℕ) (body : List ℕ) → IsBytes body → fits_known (exchange_layout kind) body ≡ true → IsSpelled kind body (exchange_call kind body)
-exchange_spelled kind body fits h =
-    by_kind kind 48 (eqb kind 48) refl body (Some (Counted 3)) _ (map_write_of body) _ h (map_write_spelled kind body fits) (λ h48.
-    by_kind kind 49 (eqb kind 49) refl body (Some (Words 4)) _ (map_read_of body) _ h48 (map_read_spelled kind body fits) (λ h49.
-    by_kind kind 50 (eqb kind 50) refl body (Some (Words 2)) _ (get_data_of body) _ h49 (get_data_spelled kind body fits) (λ h50.
-    by_kind kind 51 (eqb kind 51) refl body (Some (Words 0)) _ Flush _ h50 (flush_spelled kind body fits) (λ h51.
-    by_kind kind 52 (eqb kind 52) refl body (Some (Words 1)) _ (finish_list_of body) _ h51 (finish_list_spelled kind body fits) (λ h52.
-    by_kind kind 53 (eqb kind 53) refl body (Some (Words 2)) _ (execute_list_of body) _ h52 (execute_list_spelled kind body fits) (λ h53.
-    absurd (no_layout body h53)))))))
+spells_one : (n : ℕ) (j : Kind) (ks : List Kind) (b : Bool) (body : List ℕ) → (j.number == n) ≡ b → Spells j → (fits_known (option_map (λ k. k.layout) (kind_among n ks)) body ≡ true → IsSpelled n body (call_of n body)) → IsBytes body
+    → fits_known (option_map (λ k. k.layout) (if b then Some j else kind_among n ks)) body ≡ true → IsSpelled n body (call_of n body)
+unfolding Spells
+spells_one n j ks true body is this others fits h = subst (λ (m : ℕ). IsSpelled m body (call_of m body)) (eqb-true _ _ is) (this body fits h)
+spells_one n j ks false body is this others fits h = others h
+
+spells_among : (n : ℕ) (ks : List Kind) (body : List ℕ) → AllByRecursion Spells ks → IsBytes body → fits_known (option_map (λ k. k.layout) (kind_among n ks)) body ≡ true → IsSpelled n body (call_of n body)
+spells_among n [] body all fits h = absurd cc
+spells_among n (k ∷ ks) body all fits h = spells_one n k ks (k.number == n) body refl all.0 (spells_among n ks body all.1 fits) fits h
 
 all_spelled : (kind : ℕ) (body : List ℕ) → IsBytes body → fits kind body ≡ true → IsSpelled kind body (call_of kind body)
-unfolding layout call_of spell_words
-all_spelled kind body fits h =
-    by_group kind (ltb kind 16) body (object_layout kind) _ (object_call kind body) _ h (object_spelled kind body fits) (λ h1.
-    by_group kind (ltb kind 32) body (setting_layout kind) _ (setting_call kind body) _ h1 (setting_spelled kind body fits) (λ h2.
-    by_group kind (ltb kind 48) body (work_layout kind) _ (work_call kind body) _ h2 (work_spelled kind body fits) (λ h3.
-    by_group kind (ltb kind 64) body (exchange_layout kind) _ (exchange_call kind body) _ h3 (exchange_spelled kind body fits) (λ h4.
-    record { kind_is = refl; body_is = refl }))))
+unfolding kind_numbered
+all_spelled kind body fits h = spells_among kind kinds body each_spells fits h
 
 pub frame_of-call_of : (f : Frame) → IsFrame f → AreBytes f.body → frame_of f.context (call_of f.kind f.body) ≡ f
 frame_of-call_of f h are =

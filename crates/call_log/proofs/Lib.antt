@@ -1,3 +1,4 @@
+pub mod KindTable
 pub mod Frames
 pub mod Index
 pub mod Header

@@ -11,7 +11,8 @@ use Rattle.call_log.specs.declared.fault.LogFault.{LogFault}
 use Rattle.call_log.specs.declared.fault.LogKind.TheVariants.{Magic, Version, Truncated}
 use Rattle.call_log.specs.declared.fault.Head.{Head}
 use Rattle.call_log.specs.declared.fault.Head.TheVariants.{Whole, End, Broken}
-use Rattle.call_log.specs.declared.body.Layout.{Layout}
+use Rattle.call_log.specs.declared.kinds.Layout.{Layout}
+use Rattle.call_log.specs.Kinds.{kind_numbered}
 use Rattle.call_log.specs.Body.{layout, fits, fits_known}
 use Rattle.call_log.specs.Grammar.{Frame, IsFrame, IsLog, IsFault, IsFaultAfter, header_fault, spell, header, end_record, head_at, is_kind, kind_of, context_of, length_of, body_of, frame_at}
 
@@ -63,7 +64,7 @@ known : (b c : Bool) → c ≡ true → not (b || c) ≡ false
 known b c e = rw e (either b)
 
 no_end : (kind : ℕ) (body : List ℕ) → fits kind body ≡ true → eqb kind 0 ≡ false
-unfolding layout
+unfolding kind_numbered
 no_end zero body e = absurd cc
 no_end (suc kind) body e = grind (arith, nat_tests)
 

@@ -1,9 +1,11 @@
 -- The record that spells a call spells no other, and a log may have it.
-use Rattle.std.proofs.Common.{◌≡◌, ℕ, ◌+◌, ◌*◌, ◌%◌, ◌^◌, ◌<◌, ◌≤◌, Bool, true, false, cond, ◌&&◌, eqb, ltb, leb, List, length, Option, Some, None, refl, ap, ◌∙◌, arith}
+use Rattle.std.proofs.Common.{◌≡◌, ℕ, ◌+◌, ◌-◌, ◌*◌, ◌%◌, ◌^◌, ◌<◌, ◌≤◌, Bool, true, false, ◌&&◌, eqb, leb, List, length, Option, Some, refl, ap, subst, arith}
 use Rattle.std.proofs.lemmas.Bool.{leb-true, eqb-true}
 use Rattle.std.proofs.lemmas.Bool.Decides.{nat_tests}
-use Rattle.call_log.specs.declared.body.Layout.{Layout}
-use Rattle.call_log.specs.declared.body.Layout.TheVariants.{Free}
+use Rattle.call_log.specs.declared.kinds.Layout.{Layout}
+use Rattle.call_log.specs.declared.kinds.Layout.TheVariants.{Free}
+use Rattle.call_log.specs.Kinds.{kind_numbered}
+use Rattle.call_log.proofs.KindTable.{AllBelow, at_below}
 use Rattle.call_log.specs.Body.{word, layout, fits, fits_known, call_of}
 use Rattle.call_log.specs.Call.{Call, Buffer, View, CreateShader, Query, Destroy, SetShader, SetConstant, SetSrv, SetUav, ClearState, Dispatch, DispatchIndirect, CopyRegion, Copy, Update, ClearUav, SetPredication, Begin, EndQuery, MapWrite, MapRead, GetData, Flush, FinishList, ExecuteList, Draw}
 use Rattle.call_log.specs.Grammar.{IsFrame}
@@ -23,22 +25,76 @@ draw_kind kind e =
     let b = both_true (leb 64 kind) (leb kind 79) e in
     (leb-true _ _ b.0, leb-true _ _ b.1)
 
-five_tests : {X : Type 0} (a b c d : Bool) (v w x y z : X) → a ≡ false → b ≡ false → c ≡ false → d ≡ false → cond a v (cond b w (cond c x (cond d y z))) ≡ z
-five_tests a b c d v w x y z p q r s = rw (p, q, r, s) refl
+-- the kinds of draws
+sixteen : (P : ℕ → Type 0) (kind : ℕ) → 64 ≤ kind → kind ≤ 79 → ((i : ℕ) → i < 16 → P (64 + i)) → P kind
+sixteen P kind le ge each = let e : 64 + (kind - 64) ≡ kind = omega arith in subst P e (each (kind - 64) (omega arith))
 
-draw_back : (kind : ℕ) (body : List ℕ) → 64 ≤ kind → call_of kind body ≡ Draw kind body
-unfolding call_of
-draw_back kind body le =
-    five_tests (ltb kind 16) (ltb kind 32) (ltb kind 48) (ltb kind 64) _ _ _ _ (Draw kind body) (grind (arith, nat_tests)) (grind (arith, nat_tests)) (grind (arith, nat_tests)) (grind (arith, nat_tests))
+-- a kind of draw: its bodies are of any length, and a record of it spells a draw
+IsDraw : ℕ → Type 0
+IsDraw kind = (layout kind ≡ Some Free) × ((body : List ℕ) → call_of kind body ≡ Draw kind body)
 
-last_test : {X : Type 0} (a : Bool) (x y : X) → a ≡ true → cond a x y ≡ x
-last_test a x y e = rw e refl
+all_draws : AllBelow (λ i. IsDraw (64 + i)) 16
+unfolding AllBelow IsDraw kind_numbered call_of
+all_draws = (
+  (refl, λ body. refl),
+  (
+    (refl, λ body. refl),
+    (
+      (refl, λ body. refl),
+      (
+        (refl, λ body. refl),
+        (
+          (refl, λ body. refl),
+          (
+            (refl, λ body. refl),
+            (
+              (refl, λ body. refl),
+              (
+                (refl, λ body. refl),
+                (
+                  (refl, λ body. refl),
+                  (
+                    (refl, λ body. refl),
+                    (
+                      (refl, λ body. refl),
+                      (
+                        (refl, λ body. refl),
+                        (
+                          (refl, λ body. refl),
+                          (
+                            (refl, λ body. refl),
+                            (
+                              (refl, λ body. refl),
+                              (
+                                (refl, λ body. refl),
+                                tt,
+                              ),
+                            ),
+                          ),
+                        ),
+                      ),
+                    ),
+                  ),
+                ),
+              ),
+            ),
+          ),
+        ),
+      ),
+    ),
+  ),
+)
+
+is_draw : (kind : ℕ) → 64 ≤ kind → kind ≤ 79 → IsDraw kind
+is_draw kind le ge = sixteen IsDraw kind le ge (λ i lt. at_below (λ j. IsDraw (64 + j)) 16 i all_draws lt)
+
+draw_back : (kind : ℕ) (body : List ℕ) → 64 ≤ kind → kind ≤ 79 → call_of kind body ≡ Draw kind body
+unfolding IsDraw
+draw_back kind body le ge = (is_draw kind le ge).1 body
 
 draw_layout : (kind : ℕ) → 64 ≤ kind → kind ≤ 79 → layout kind ≡ Some Free
-unfolding layout
-draw_layout kind le ge =
-    five_tests (ltb kind 16) (ltb kind 32) (ltb kind 48) (ltb kind 64) _ _ _ _ (cond (ltb kind 80) (Some Free) None) (grind (arith, nat_tests)) (grind (arith, nat_tests)) (grind (arith, nat_tests)) (grind (arith, nat_tests))
-    ∙ last_test (ltb kind 80) (Some Free) None (grind (arith, nat_tests))
+unfolding IsDraw
+draw_layout kind le ge = (is_draw kind le ge).0
 
 pub call_back : (c : Call) → IsPuttable c → AreWords (words_of_call c) → call_of (kind_of_call c) (body_of_call c) ≡ c
 unfolding call_of spell_words
@@ -67,7 +123,7 @@ call_back (GetData query flag) p h = λ i. GetData (four_back query h.0 i) (four
 call_back Flush p h = refl
 call_back (FinishList list) p h = λ i. FinishList (four_back list h.0 i)
 call_back (ExecuteList list flag) p h = λ i. ExecuteList (four_back list h.0 i) (four_back flag h.1.0 i)
-call_back (Draw kind body) p h = draw_back kind body (draw_kind kind p.fits).0
+call_back (Draw kind body) p h = let b = draw_kind kind p.fits in draw_back kind body b.0 b.1
 
 -- a body that has as many bytes behind its words as its last word says
 counted : (n m w b : ℕ) → w ≡ b → m ≡ 4 * n + 4 + b → leb (4 * n + 4) m && eqb m (4 * n + 4 + w) ≡ true
@@ -83,7 +139,7 @@ whole_tokens : (m n : ℕ) → m ≡ 4 + n → eqb (n % 4) 0 ≡ true → leb 4 
 whole_tokens m n is e = let rest : n % 4 ≡ 0 = eqb-true _ _ e in both (leb 4 m) (eqb (m % 4) 0) (grind (arith, nat_tests)) (eq_true (m % 4) (omega arith))
 
 pub fits_back : (c : Call) → IsPuttable c → AreWords (words_of_call c) → fits (kind_of_call c) (body_of_call c) ≡ true
-unfolding layout spell_words
+unfolding kind_numbered spell_words
 fits_back (Buffer id size usage bind misc stride bytes) p h = counted 6 (length (body_of_call (Buffer id size usage bind misc stride bytes))) (word 6 (body_of_call (Buffer id size usage bind misc stride bytes))) (length bytes) (four_back (length bytes) h.1.1.1.1.1.1.0) (omega arith)
 fits_back (View view res kind form components first count) p h = refl
 fits_back (CreateShader id words) p h = whole_tokens (length (body_of_call (CreateShader id words))) (length words) (omega arith) p.fits

@@ -1,8 +1,11 @@
 -- The bodies of the records, by kind.
-use Rattle.std.specs.Prelude.{ℕ, ◌+◌, ◌*◌, ◌%◌, ◌==◌, nat_le, nat_lt, Bool, true, false, ◌&&◌, Option, Some, None, List, length, drop, if◌then◌else◌}
+use Rattle.std.specs.Prelude.{ℕ, ◌+◌, ◌*◌, ◌%◌, ◌==◌, nat_le, Bool, true, false, ◌&&◌, Option, Some, None, List, length, drop, if◌then◌else◌}
+use Rattle.std.specs.Option.{option_map}
 use Rattle.byteorder.specs.Endian.{little_number}
-use Rattle.call_log.specs.declared.body.Layout.{Layout}
-use Rattle.call_log.specs.declared.body.Layout.TheVariants.{Words, Counted, Tokens, Free}
+use Rattle.call_log.specs.declared.kinds.Layout.{Layout}
+use Rattle.call_log.specs.declared.kinds.Layout.TheVariants.{Words, Counted, Tokens, Free}
+use Rattle.call_log.specs.declared.kinds.TheConstants.{BUFFER, VIEW, CREATE_SHADER, QUERY, DESTROY, SET_SHADER, SET_CONSTANT, SET_SRV, SET_UAV, CLEAR_STATE, DISPATCH, DISPATCH_INDIRECT, COPY_REGION, COPY, UPDATE, CLEAR_UAV, SET_PREDICATION, BEGIN, END_QUERY, MAP_WRITE, MAP_READ, GET_DATA, FLUSH, FINISH_LIST, EXECUTE_LIST}
+use Rattle.call_log.specs.Kinds.{kind_numbered}
 use Rattle.call_log.specs.Call.{Call, Buffer, View, CreateShader, Query, Destroy, SetShader, SetConstant, SetSrv, SetUav, ClearState, Dispatch, DispatchIndirect, CopyRegion, Copy, Update, ClearUav, SetPredication, Begin, EndQuery, MapWrite, MapRead, GetData, Flush, FinishList, ExecuteList, Draw}
 
 -- Word i of a body: 4 bytes, the lowest first.
@@ -11,60 +14,9 @@ word i body = little_number 4 (drop (4 * i) body)
 
 -- ---- how long a body is
 
--- The layouts of the kinds that make and destroy objects.
-abbrev pub object_layout : ℕ → Option Layout
-object_layout kind =
-    if kind == 1 then Some (Counted 6)
-    else if kind == 2 then Some (Words 7)
-    else if kind == 3 then Some Tokens
-    else if kind == 4 then Some (Words 2)
-    else if kind == 5 then Some (Words 2)
-    else None
-
--- The layouts of the kinds that set the state of a context.
-abbrev pub setting_layout : ℕ → Option Layout
-setting_layout kind =
-    if kind == 16 then Some (Words 1)
-    else if kind == 17 then Some (Words 2)
-    else if kind == 18 then Some (Words 2)
-    else if kind == 19 then Some (Words 2)
-    else if kind == 20 then Some (Words 0)
-    else None
-
--- The layouts of the kinds that give a context work.
-abbrev pub work_layout : ℕ → Option Layout
-work_layout kind =
-    if kind == 32 then Some (Words 3)
-    else if kind == 33 then Some (Words 2)
-    else if kind == 34 then Some (Words 5)
-    else if kind == 35 then Some (Words 2)
-    else if kind == 36 then Some (Counted 2)
-    else if kind == 37 then Some (Words 5)
-    else if kind == 38 then Some (Words 4)
-    else if kind == 39 then Some (Words 1)
-    else if kind == 40 then Some (Words 1)
-    else None
-
--- The layouts of the kinds that map, read back, flush, and make or execute lists.
-abbrev pub exchange_layout : ℕ → Option Layout
-exchange_layout kind =
-    if kind == 48 then Some (Counted 3)
-    else if kind == 49 then Some (Words 4)
-    else if kind == 50 then Some (Words 2)
-    else if kind == 51 then Some (Words 0)
-    else if kind == 52 then Some (Words 1)
-    else if kind == 53 then Some (Words 2)
-    else None
-
 -- The layout of the bodies of a kind of call; none where no call is of this kind.
-unfoldable pub layout : ℕ → Option Layout
-layout kind =
-    if nat_lt kind 16 then object_layout kind
-    else if nat_lt kind 32 then setting_layout kind
-    else if nat_lt kind 48 then work_layout kind
-    else if nat_lt kind 64 then exchange_layout kind
-    else if nat_lt kind 80 then Some Free
-    else None
+abbrev pub layout : ℕ → Option Layout
+layout number = option_map (λ k. k.layout) (kind_numbered number)
 
 -- A body is as long as a layout says: its words alone; its words, a length and so many bytes; a word
 -- and whole token words; any length.
@@ -177,56 +129,32 @@ finish_list_of body = FinishList (word 0 body)
 abbrev pub execute_list_of : List ℕ → Call
 execute_list_of body = ExecuteList (word 0 body) (word 1 body)
 
--- The calls of the kinds that make and destroy objects.
-abbrev pub object_call : ℕ → List ℕ → Call
-object_call kind body =
-    if kind == 1 then buffer_of body
-    else if kind == 2 then view_of body
-    else if kind == 3 then create_shader_of body
-    else if kind == 4 then query_of body
-    else if kind == 5 then destroy_of body
-    else Draw kind body
-
--- The calls of the kinds that set the state of a context.
-abbrev pub setting_call : ℕ → List ℕ → Call
-setting_call kind body =
-    if kind == 16 then set_shader_of body
-    else if kind == 17 then set_constant_of body
-    else if kind == 18 then set_srv_of body
-    else if kind == 19 then set_uav_of body
-    else if kind == 20 then ClearState
-    else Draw kind body
-
--- The calls of the kinds that give a context work.
-abbrev pub work_call : ℕ → List ℕ → Call
-work_call kind body =
-    if kind == 32 then dispatch_of body
-    else if kind == 33 then dispatch_indirect_of body
-    else if kind == 34 then copy_region_of body
-    else if kind == 35 then copy_of body
-    else if kind == 36 then update_of body
-    else if kind == 37 then clear_uav_of body
-    else if kind == 38 then set_predication_of body
-    else if kind == 39 then begin_of body
-    else if kind == 40 then end_query_of body
-    else Draw kind body
-
--- The calls of the kinds that map, read back, flush, and make or execute lists.
-abbrev pub exchange_call : ℕ → List ℕ → Call
-exchange_call kind body =
-    if kind == 48 then map_write_of body
-    else if kind == 49 then map_read_of body
-    else if kind == 50 then get_data_of body
-    else if kind == 51 then Flush
-    else if kind == 52 then finish_list_of body
-    else if kind == 53 then execute_list_of body
-    else Draw kind body
-
--- The call that a record spells: a draw from kind 64 on. No log has a record of another kind.
+-- The call that a record spells: a draw where it is none of the others. No log has a record of another kind.
 unfoldable pub call_of : ℕ → List ℕ → Call
 call_of kind body =
-    if nat_lt kind 16 then object_call kind body
-    else if nat_lt kind 32 then setting_call kind body
-    else if nat_lt kind 48 then work_call kind body
-    else if nat_lt kind 64 then exchange_call kind body
+    if kind == BUFFER then buffer_of body
+    else if kind == VIEW then view_of body
+    else if kind == CREATE_SHADER then create_shader_of body
+    else if kind == QUERY then query_of body
+    else if kind == DESTROY then destroy_of body
+    else if kind == SET_SHADER then set_shader_of body
+    else if kind == SET_CONSTANT then set_constant_of body
+    else if kind == SET_SRV then set_srv_of body
+    else if kind == SET_UAV then set_uav_of body
+    else if kind == CLEAR_STATE then ClearState
+    else if kind == DISPATCH then dispatch_of body
+    else if kind == DISPATCH_INDIRECT then dispatch_indirect_of body
+    else if kind == COPY_REGION then copy_region_of body
+    else if kind == COPY then copy_of body
+    else if kind == UPDATE then update_of body
+    else if kind == CLEAR_UAV then clear_uav_of body
+    else if kind == SET_PREDICATION then set_predication_of body
+    else if kind == BEGIN then begin_of body
+    else if kind == END_QUERY then end_query_of body
+    else if kind == MAP_WRITE then map_write_of body
+    else if kind == MAP_READ then map_read_of body
+    else if kind == GET_DATA then get_data_of body
+    else if kind == FLUSH then Flush
+    else if kind == FINISH_LIST then finish_list_of body
+    else if kind == EXECUTE_LIST then execute_list_of body
     else Draw kind body

@@ -1,4 +1,5 @@
 pub mod Call
+pub mod Kinds
 pub mod Body
 pub mod Grammar
 pub mod View

@@ -2,36 +2,37 @@
 use Rattle.std.specs.Prelude.{ℕ, ◌+◌, ◌*◌, ◌<◌, ◌^◌, ◌%◌, ◌==◌, nat_le, Bool, true, ◌&&◌, IsTrue, List, [], ◌∷◌, ◌++◌, length, ⊤}
 use Rattle.std.specs.List.{flat_map}
 use Rattle.byteorder.specs.Endian.{little_bytes}
+use Rattle.call_log.specs.declared.kinds.TheConstants.{BUFFER, VIEW, CREATE_SHADER, QUERY, DESTROY, SET_SHADER, SET_CONSTANT, SET_SRV, SET_UAV, CLEAR_STATE, DISPATCH, DISPATCH_INDIRECT, COPY_REGION, COPY, UPDATE, CLEAR_UAV, SET_PREDICATION, BEGIN, END_QUERY, MAP_WRITE, MAP_READ, GET_DATA, FLUSH, FINISH_LIST, EXECUTE_LIST}
 use Rattle.call_log.specs.Call.{Call, Buffer, View, CreateShader, Query, Destroy, SetShader, SetConstant, SetSrv, SetUav, ClearState, Dispatch, DispatchIndirect, CopyRegion, Copy, Update, ClearUav, SetPredication, Begin, EndQuery, MapWrite, MapRead, GetData, Flush, FinishList, ExecuteList, Draw}
 use Rattle.call_log.specs.Grammar.{Frame}
 
 -- The number of a call's kind.
 abbrev pub kind_of_call : Call → ℕ
-kind_of_call (Buffer id size usage bind misc stride bytes) = 1
-kind_of_call (View view res kind form components first count) = 2
-kind_of_call (CreateShader id words) = 3
-kind_of_call (Query id sort) = 4
-kind_of_call (Destroy class id) = 5
-kind_of_call (SetShader id) = 16
-kind_of_call (SetConstant slot res) = 17
-kind_of_call (SetSrv slot view) = 18
-kind_of_call (SetUav slot view) = 19
-kind_of_call ClearState = 20
-kind_of_call (Dispatch x y z) = 32
-kind_of_call (DispatchIndirect res offset) = 33
-kind_of_call (CopyRegion target target_offset source source_offset len) = 34
-kind_of_call (Copy target source) = 35
-kind_of_call (Update res offset bytes) = 36
-kind_of_call (ClearUav view v0 v1 v2 v3) = 37
-kind_of_call (SetPredication kind id offset value) = 38
-kind_of_call (Begin query) = 39
-kind_of_call (EndQuery query) = 40
-kind_of_call (MapWrite res mode offset bytes) = 48
-kind_of_call (MapRead res flag offset len) = 49
-kind_of_call (GetData query flag) = 50
-kind_of_call Flush = 51
-kind_of_call (FinishList list) = 52
-kind_of_call (ExecuteList list flag) = 53
+kind_of_call (Buffer id size usage bind misc stride bytes) = BUFFER
+kind_of_call (View view res kind form components first count) = VIEW
+kind_of_call (CreateShader id words) = CREATE_SHADER
+kind_of_call (Query id sort) = QUERY
+kind_of_call (Destroy class id) = DESTROY
+kind_of_call (SetShader id) = SET_SHADER
+kind_of_call (SetConstant slot res) = SET_CONSTANT
+kind_of_call (SetSrv slot view) = SET_SRV
+kind_of_call (SetUav slot view) = SET_UAV
+kind_of_call ClearState = CLEAR_STATE
+kind_of_call (Dispatch x y z) = DISPATCH
+kind_of_call (DispatchIndirect res offset) = DISPATCH_INDIRECT
+kind_of_call (CopyRegion target target_offset source source_offset len) = COPY_REGION
+kind_of_call (Copy target source) = COPY
+kind_of_call (Update res offset bytes) = UPDATE
+kind_of_call (ClearUav view v0 v1 v2 v3) = CLEAR_UAV
+kind_of_call (SetPredication kind id offset value) = SET_PREDICATION
+kind_of_call (Begin query) = BEGIN
+kind_of_call (EndQuery query) = END_QUERY
+kind_of_call (MapWrite res mode offset bytes) = MAP_WRITE
+kind_of_call (MapRead res flag offset len) = MAP_READ
+kind_of_call (GetData query flag) = GET_DATA
+kind_of_call Flush = FLUSH
+kind_of_call (FinishList list) = FINISH_LIST
+kind_of_call (ExecuteList list flag) = EXECUTE_LIST
 kind_of_call (Draw kind body) = kind
 
 -- The bytes of some words, 4 each, the lowest first.

@@ -1,90 +1,43 @@
 ghost use Rattle.std.specs.Prelude.{◌≡◌, ◌≤◌, ◌<◌, IsTrue, length};
-ghost use Rattle.call_log.specs.Body.{fits, call_of, object_call, setting_call, work_call, exchange_call, buffer_of, view_of, create_shader_of, query_of, destroy_of, set_shader_of, set_constant_of, set_srv_of, set_uav_of, dispatch_of, dispatch_indirect_of, copy_region_of, copy_of, update_of, clear_uav_of, set_predication_of, begin_of, end_query_of, map_write_of, map_read_of, get_data_of, finish_list_of, execute_list_of};
+ghost use Rattle.call_log.specs.Body.{fits, call_of, buffer_of, view_of, create_shader_of, query_of, destroy_of, set_shader_of, set_constant_of, set_srv_of, set_uav_of, dispatch_of, dispatch_indirect_of, copy_region_of, copy_of, update_of, clear_uav_of, set_predication_of, begin_of, end_query_of, map_write_of, map_read_of, get_data_of, finish_list_of, execute_list_of};
 ghost use Rattle.call_log.specs.View.{call_view};
 
 use crate::body::{tail, word_at};
 use crate::call::Call;
+use crate::kinds::*;
 
 /// The call that a record of this kind and body spells.
-#[tactic(auto, unfolding(crate::specs::Body::call_of))]
+#[tactic(auto, unfolding(crate::specs::Kinds::kind_numbered, crate::specs::Body::call_of))]
 pub(crate) fn call_from(kind: u16, body: &[u8]) -> Call<'_>
     requires { IsTrue (fits kind body.now) }
     ensures { call_view result ≡ call_of kind body.now }
 {
-    if kind < 16 {
-        object_call_from(kind, body)
-    } else if kind < 32 {
-        setting_call_from(kind, body)
-    } else if kind < 48 {
-        work_call_from(kind, body)
-    } else if kind < 64 {
-        exchange_call_from(kind, body)
-    } else {
-        Call::Draw { kind, body }
-    }
-}
-
-#[tactic(auto, unfolding(crate::specs::Body::layout))]
-fn object_call_from(kind: u16, body: &[u8]) -> Call<'_>
-    requires { IsTrue (fits kind body.now) }
-    ensures { call_view result ≡ object_call kind body.now }
-{
     match kind {
-        1 => buffer_call(body),
-        2 => view_call(body),
-        3 => create_shader_call(body),
-        4 => query_call(body),
-        5 => destroy_call(body),
-        kind => Call::Draw { kind, body },
-    }
-}
-
-#[tactic(auto, unfolding(crate::specs::Body::layout))]
-fn setting_call_from(kind: u16, body: &[u8]) -> Call<'_>
-    requires { IsTrue (fits kind body.now) }
-    ensures { call_view result ≡ setting_call kind body.now }
-{
-    match kind {
-        16 => set_shader_call(body),
-        17 => set_constant_call(body),
-        18 => set_srv_call(body),
-        19 => set_uav_call(body),
-        20 => Call::ClearState,
-        kind => Call::Draw { kind, body },
-    }
-}
-
-#[tactic(auto, unfolding(crate::specs::Body::layout))]
-fn work_call_from(kind: u16, body: &[u8]) -> Call<'_>
-    requires { IsTrue (fits kind body.now) }
-    ensures { call_view result ≡ work_call kind body.now }
-{
-    match kind {
-        32 => dispatch_call(body),
-        33 => dispatch_indirect_call(body),
-        34 => copy_region_call(body),
-        35 => copy_call(body),
-        36 => update_call(body),
-        37 => clear_uav_call(body),
-        38 => set_predication_call(body),
-        39 => begin_call(body),
-        40 => end_query_call(body),
-        kind => Call::Draw { kind, body },
-    }
-}
-
-#[tactic(auto, unfolding(crate::specs::Body::layout))]
-fn exchange_call_from(kind: u16, body: &[u8]) -> Call<'_>
-    requires { IsTrue (fits kind body.now) }
-    ensures { call_view result ≡ exchange_call kind body.now }
-{
-    match kind {
-        48 => map_write_call(body),
-        49 => map_read_call(body),
-        50 => get_data_call(body),
-        51 => Call::Flush,
-        52 => finish_list_call(body),
-        53 => execute_list_call(body),
+        BUFFER => buffer_call(body),
+        VIEW => view_call(body),
+        CREATE_SHADER => create_shader_call(body),
+        QUERY => query_call(body),
+        DESTROY => destroy_call(body),
+        SET_SHADER => set_shader_call(body),
+        SET_CONSTANT => set_constant_call(body),
+        SET_SRV => set_srv_call(body),
+        SET_UAV => set_uav_call(body),
+        CLEAR_STATE => Call::ClearState,
+        DISPATCH => dispatch_call(body),
+        DISPATCH_INDIRECT => dispatch_indirect_call(body),
+        COPY_REGION => copy_region_call(body),
+        COPY => copy_call(body),
+        UPDATE => update_call(body),
+        CLEAR_UAV => clear_uav_call(body),
+        SET_PREDICATION => set_predication_call(body),
+        BEGIN => begin_call(body),
+        END_QUERY => end_query_call(body),
+        MAP_WRITE => map_write_call(body),
+        MAP_READ => map_read_call(body),
+        GET_DATA => get_data_call(body),
+        FLUSH => Call::Flush,
+        FINISH_LIST => finish_list_call(body),
+        EXECUTE_LIST => execute_list_call(body),
         kind => Call::Draw { kind, body },
     }
 }

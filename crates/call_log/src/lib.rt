@@ -8,13 +8,17 @@ mod decode;
 mod fault;
 mod head;
 mod item;
+pub mod kinds;
 mod laws;
 mod log;
 mod put;
+mod table;
 
 pub use call::Call;
 pub use fault::{LogEnd, LogFault, LogKind};
 pub use item::Item;
+pub use kinds::{Kind, Layout, Place, Sort};
 pub use laws::{one_reading, puts_read_back};
 pub use log::{Log, read_log};
 pub use put::{close_record, open_record, put_call, put_end, put_header};
+pub use table::{kind_named, kind_numbered};

@@ -8,10 +8,11 @@ use Rattle.call_log.specs.Call.{Call, Issued}
 use Rattle.call_log.specs.Grammar.{Frame, calls_of}
 use Rattle.d3d_model.specs.InOrder.{State, before_call, call_at, verdict_in}
 use Rattle.d3d_model.specs.ReplyText.{none_pending, answer, answer_or_still, reply_unless, reply_to, reply_at}
+use Rattle.d3d_model.specs.D3dState.{Shader}
 use Rattle.d3d_model.proofs.Maps.{get-empty}
 use Rattle.d3d_plan.specs.Planned.{Planned}
-use Rattle.d3d_ref.specs.Stands.{Judged}
-use Rattle.d3d_ref.proofs.Judgements.{judged, verdict_of}
+use Rattle.d3d_ref.specs.Stands.{Judged, IsCreated}
+use Rattle.d3d_ref.proofs.Judgements.{created, judged, shader_of, verdict_of}
 use Rattle.d3d_plan.proofs.Entries.{length-plan_of}
 use Rattle.core_machine.specs.Commands.{writes, command_in, makes_command}
 use Rattle.core_machine.specs.Keeping.{IsPlanned}
@@ -27,6 +28,15 @@ judged_at frames plan (suc i) refusal p first last said =
     subst (λ (m : ℕ). Judged (calls_of frames) m refusal) (add-one i)
     (judged frames plan i refusal p.planned (omega arith) p.playable
     (subst (λ (m : ℕ). Some refusal ≡ option_map verdict_of (slice_get plan (m - 1))) (sym (add-one i)) said))
+
+-- the shader that is planned of call n is the one that it creates
+pub created_at : (frames : List Frame) (plan : List Planned) (n : ℕ) (refusal : Option Refusal) (shader : Option Shader) → IsPlanned frames plan → 1 ≤ n → n ≤ length frames
+    → Judged (calls_of frames) n refusal → Some shader ≡ option_map shader_of (slice_get plan (n - 1)) → IsCreated (calls_of frames) n refusal shader
+created_at frames plan zero refusal shader p first last j said = absurd (omega arith)
+created_at frames plan (suc i) refusal shader p first last j said =
+    subst (λ (m : ℕ). IsCreated (calls_of frames) m refusal shader) (add-one i)
+    (created frames plan i refusal shader p.planned (omega arith) (subst (λ (m : ℕ). Judged (calls_of frames) m refusal) (sym (add-one i)) j)
+    (subst (λ (m : ℕ). Some shader ≡ option_map shader_of (slice_get plan (m - 1))) (sym (add-one i)) said))
 
 -- ---- commands
 

@@ -1,5 +1,6 @@
 -- Which calls are commands of the device.
 use Rattle.std.specs.Prelude.{ℕ, ◌==◌, Bool, true, false, not, ◌&&◌, List, Option, None, Some, is_none}
+use Rattle.d3d_model.specs.declared.codes.TheConstants.{MAP_WRITE}
 use Rattle.call_log.specs.Call as calls
 use Rattle.call_log.specs.Call.{Call, Issued}
 use Rattle.d3d_model.specs.Verdict.{has_bytes}
@@ -11,7 +12,7 @@ writes (calls.CopyRegion target target_offset source source_offset len) = not (l
 writes (calls.Copy target source) = true
 writes (calls.Update res offset bytes) = has_bytes bytes
 writes (calls.ClearUav view v0 v1 v2 v3) = true
-writes (calls.MapWrite res mode offset bytes) = (mode == 2) && has_bytes bytes
+writes (calls.MapWrite res mode offset bytes) = (mode == MAP_WRITE) && has_bytes bytes
 writes _ = false
 
 abbrev pub command_in : State → Option Issued → Bool

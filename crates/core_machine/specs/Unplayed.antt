@@ -1,5 +1,6 @@
 -- The calls that the machine does not play yet.
 use Rattle.std.specs.Prelude.{ℕ, ◌==◌, Bool, true, false, ◌||◌, List, Option, None, Some}
+use Rattle.d3d_model.specs.declared.codes.TheConstants.{DO_NOT_WAIT, DYNAMIC_USAGE, WORD_PREDICATE}
 use Rattle.call_log.specs.Call as calls
 use Rattle.call_log.specs.Call.{Call, Issued}
 use Rattle.call_log.specs.Grammar.{Frame, issued}
@@ -10,9 +11,9 @@ use Rattle.d3d_plan.specs.Ends.{Never, IsFirst}
 abbrev pub is_left_out : Call → Bool
 is_left_out (calls.CreateShader id words) = true
 is_left_out (calls.Query id sort) = true
-is_left_out (calls.Buffer id size usage bind misc stride bytes) = usage == 2
-is_left_out (calls.SetPredication kind id offset value) = kind == 2
-is_left_out (calls.MapRead res flag offset len) = flag == 1
+is_left_out (calls.Buffer id size usage bind misc stride bytes) = usage == DYNAMIC_USAGE
+is_left_out (calls.SetPredication kind id offset value) = kind == WORD_PREDICATE
+is_left_out (calls.MapRead res flag offset len) = flag == DO_NOT_WAIT
 is_left_out _ = false
 
 -- a call that is left out, or one that a deferred context would record

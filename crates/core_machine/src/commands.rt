@@ -5,6 +5,7 @@ ghost use Rattle.core_machine.specs.Commands.{makes_command, writes};
 ghost use Rattle.core_machine.specs.Keeping.{IsPlanned};
 
 use call_log::{Call, Log};
+use d3d_model::codes::MAP_WRITE;
 use d3d_plan::{Plan, Verdict};
 use dx_types::CallNo;
 
@@ -30,7 +31,7 @@ fn writes(call: &Call<'_>) -> bool
     match *call {
         Call::CopyRegion { length, .. } => length != 0,
         Call::Update { bytes, .. } => !bytes.is_empty(),
-        Call::MapWrite { mode, bytes, .. } => mode == 2 && !bytes.is_empty(),
+        Call::MapWrite { mode, bytes, .. } => mode == MAP_WRITE && !bytes.is_empty(),
         Call::Copy { .. } | Call::ClearUav { .. } => true,
         _ => false,
     }

@@ -30,7 +30,7 @@ pub(crate) fn play_call(
     let Some(mut state) = machine.take() else {
         return Err(AllocError);
     };
-    let reply = state.play(alloc, log, n, refusal(plan.verdict(n)))?;
+    let reply = state.play(alloc, log, n, refusal(plan.verdict(n)), plan.shader(n))?;
     *machine = Some(state);
     Ok(reply)
 }

@@ -4,6 +4,7 @@ ghost use Rattle.d3d_checks.specs.Accepted.{is_recorded};
 ghost use Rattle.core_machine.specs.Unplayed.{FirstUnplayed, is_left_out, is_unplayed_record};
 
 use call_log::{Call, Item, Log};
+use d3d_model::codes::{DO_NOT_WAIT, DYNAMIC_USAGE, WORD_PREDICATE};
 use dx_types::CallNo;
 use dx_types::limits::DEFERRED_CONTEXTS;
 
@@ -35,9 +36,9 @@ fn is_left_out(call: &Call<'_>) -> bool
 {
     match *call {
         Call::CreateShader { .. } | Call::Query { .. } => true,
-        Call::Buffer { usage, .. } => usage == 2,
-        Call::SetPredication { kind, .. } => kind == 2,
-        Call::MapRead { flag, .. } => flag == 1,
+        Call::Buffer { usage, .. } => usage == DYNAMIC_USAGE,
+        Call::SetPredication { kind, .. } => kind == WORD_PREDICATE,
+        Call::MapRead { flag, .. } => flag == DO_NOT_WAIT,
         _ => false,
     }
 }

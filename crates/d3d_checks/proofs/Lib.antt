@@ -1,6 +1,3 @@
 pub mod Passes
-pub mod NoEffect
-pub mod BoundRanges
-pub mod Unasked
-pub mod Kept
-pub mod Slots
+mod Classes
+mod Unasked

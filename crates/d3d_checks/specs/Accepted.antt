@@ -1,5 +1,5 @@
 -- Which calls are built, and which of the immediate context are accepted.
-use Rattle.std.specs.Prelude.{◌≡◌, ℕ, ◌==◌, Bool, true, false, not, ◌&&◌, Option, None, IsSome}
+use Rattle.std.specs.Prelude.{◌≡◌, ℕ, ◌==◌, Bool, true, false, not, ◌&&◌, None, IsSome}
 use Rattle.call_log.specs.Call as calls
 use Rattle.call_log.specs.Call.{Call, Issued}
 use Rattle.d3d_model.specs.D3dState.{Objects, buffer_of}
@@ -28,14 +28,6 @@ pub record Accepted (o : Objects) (c : Call) : Type 0 where
   pub built : is_built c ≡ true
   pub past : Past
   pub passes : verdict o past (record { context = 0; call = c }) ≡ None
-
--- the call makes a new object
-abbrev pub is_creation : Call → Bool
-is_creation (calls.Buffer id size usage bind misc stride bytes) = true
-is_creation (calls.View view res kind form components first count) = true
-is_creation (calls.CreateShader id words) = true
-is_creation (calls.Query id sort) = true
-is_creation _ = false
 
 -- what is kept of the past answers what is asked of it, of each live buffer
 abbrev pub Tells : Past → Objects → Uses → Type 0

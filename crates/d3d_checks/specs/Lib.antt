@@ -1,6 +1,5 @@
 pub mod Asked
 pub mod NewViews
 pub mod Accepted
-pub mod Bound
 pub mod Created
 pub mod Dispatched

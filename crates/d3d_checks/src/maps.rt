@@ -1,7 +1,10 @@
-ghost use Rattle.std.specs.Prelude.{◌≡◌, ◌&&◌, ◌||◌, not, nat_lt, ◌==◌};
+ghost use Rattle.std.specs.Prelude.{◌≡◌, ◌&&◌, ◌||◌, not, nat_lt, ◌==◌, [], ◌∷◌, if◌then◌else◌};
 ghost use Rattle.call_log.specs.Call as calls;
 ghost use Rattle.d3d_checks.specs.Accepted.{Tells};
 ghost use Rattle.d3d_checks.specs.Asked.{refusal_of};
+ghost use Rattle.d3d_model.specs.declared.codes.TheConstants.{MAP_NO_OVERWRITE, MAP_WRITE};
+ghost use Rattle.d3d_model.specs.Check.{first_failed};
+ghost use Rattle.d3d_model.specs.Codes.{map_mode_number};
 ghost use Rattle.d3d_model.specs.Past.{Past};
 ghost use Rattle.d3d_model.specs.Resource.{is_dynamic, is_staging};
 ghost use Rattle.d3d_model.specs.Verdict.{in_use};
@@ -9,12 +12,11 @@ ghost use Rattle.d3d_state.specs.Meaning.{objects_of};
 ghost use Rattle.d3d_uses.specs.Summary.{Summarises};
 
 use crate::numbers::passes_end;
+use d3d_model::MapMode;
+use d3d_model::codes::DO_NOT_WAIT;
 use d3d_state::Objects;
 use d3d_uses::Uses;
 use dx_types::{Refusal, ResRange, Shape, Usage};
-
-/// The mode of a map that overwrites nothing that is in use.
-const NO_OVERWRITE: u32 = 1;
 
 /// Why a readback is refused.
 pub(crate) fn map_read_refusal(
@@ -29,7 +31,7 @@ pub(crate) fn map_read_refusal(
     let Some(shape) = objects.buffer(res) else {
         return Some(Refusal::UnknownId);
     };
-    if !matches!(shape.usage, Usage::Staging) || flag > 1 {
+    if !matches!(shape.usage, Usage::Staging) || flag > DO_NOT_WAIT {
         Some(Refusal::NotMappable)
     } else if len == 0 || passes_end(&shape, offset, u64::from(len)) {
         Some(Refusal::OutOfRange)
@@ -53,14 +55,32 @@ pub(crate) fn map_write_refusal(
     let Some(shape) = objects.buffer(res) else {
         return Some(Refusal::UnknownId);
     };
+    let Some(mode) = MapMode::from_number(mode) else {
+        return Some(Refusal::NotMappable);
+    };
     if is_not_mappable(&shape, mode) {
         Some(Refusal::NotMappable)
     } else if passes_end(&shape, offset, bytes.len() as u64) {
         Some(Refusal::OutOfRange)
-    } else if mode == NO_OVERWRITE && is_in_use(uses, res, offset, bytes) {
-        Some(Refusal::InUse)
     } else {
-        None
+        use_refusal(uses, mode, res, offset, bytes)
+    }
+}
+
+/// Why a map in this mode is refused for what is in use.
+fn use_refusal(uses: &Uses, mode: MapMode, res: u32, offset: u32, bytes: &[u8]) -> Option<Refusal>
+    ensures { (past : Past) → Summarises past uses.now res
+        → result ≡ first_failed (if map_mode_number mode == MAP_NO_OVERWRITE then (in_use past res offset bytes.now, Refusal.InUse) ∷ [] else []) }
+{
+    match mode {
+        MapMode::Discard | MapMode::Write => None,
+        MapMode::NoOverwrite => {
+            if is_in_use(uses, res, offset, bytes) {
+                Some(Refusal::InUse)
+            } else {
+                None
+            }
+        }
     }
 }
 
@@ -73,15 +93,14 @@ fn is_in_use(uses: &Uses, res: u32, offset: u32, bytes: &[u8]) -> bool
     uses.is_bound(&ResRange { res, from, to })
 }
 
-/// Whether the buffer may not be mapped for writes in this mode: 0 discards, 1 overwrites nothing that is in use, and 2 writes
-/// a staging buffer.
-fn is_not_mappable(shape: &Shape, mode: u32) -> bool
-    ensures { result ≡ (nat_lt 2 mode || (nat_lt mode 2 && not (is_dynamic shape.now.usage))
-        || ((mode == 2) && not (is_staging shape.now.usage))) }
+/// Whether the buffer may not be mapped for writes in this mode.
+fn is_not_mappable(shape: &Shape, mode: MapMode) -> bool
+    ensures { result ≡ (nat_lt MAP_WRITE (map_mode_number mode)
+        || (nat_lt (map_mode_number mode) MAP_WRITE && not (is_dynamic shape.now.usage))
+        || ((map_mode_number mode == MAP_WRITE) && not (is_staging shape.now.usage))) }
 {
     match mode {
-        0 | 1 => !matches!(shape.usage, Usage::Dynamic),
-        2 => !matches!(shape.usage, Usage::Staging),
-        _ => true,
+        MapMode::Discard | MapMode::NoOverwrite => !matches!(shape.usage, Usage::Dynamic),
+        MapMode::Write => !matches!(shape.usage, Usage::Staging),
     }
 }

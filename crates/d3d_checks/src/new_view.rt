@@ -2,23 +2,24 @@ ghost use Rattle.std.specs.Prelude.{◌≡◌, ◌≤◌};
 ghost use Rattle.d3d_checks.specs.NewViews.{described_by};
 
 use crate::numbers::form_from;
+use d3d_model::codes::WRITE_VIEW;
 use dx_types::{Form, Shape, ViewShape};
 
-/// What a call says of a view to be created. `kind` is 0 for reads and 1 for writes, `form` 0 for raw, 1 for structured and 2
-/// for typed; `components` are those of a typed element.
+/// What a call says of a view to be created. `kind` says whether it is for reads or for writes, `form` how it reads its buffer,
+/// both as numbers; `components` are those of a typed element.
 #[derive(Clone, Copy, Debug, PartialEq, Eq)]
-pub(crate) struct NewView {
-    pub(crate) view: u32,
-    pub(crate) res: u32,
-    pub(crate) kind: u32,
-    pub(crate) form: u32,
-    pub(crate) components: u32,
-    pub(crate) first: u32,
-    pub(crate) count: u32,
+pub struct NewView {
+    pub view: u32,
+    pub res: u32,
+    pub kind: u32,
+    pub form: u32,
+    pub components: u32,
+    pub first: u32,
+    pub count: u32,
 }
 
 /// The view of a buffer that is described.
-pub(crate) fn described(shape: &Shape, ask: &NewView) -> ViewShape
+pub fn described(shape: &Shape, ask: &NewView) -> ViewShape
     requires { ask.now.components ≤ 4 }
     ensures { result ≡ described_by shape.now ask.now }
 {
@@ -30,7 +31,7 @@ pub(crate) fn described(shape: &Shape, ask: &NewView) -> ViewShape
     };
     ViewShape {
         res: ask.res,
-        writable: ask.kind == 1,
+        writable: ask.kind == WRITE_VIEW,
         form,
         unit,
         first: u64::from(ask.first),

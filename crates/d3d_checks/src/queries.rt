@@ -4,8 +4,9 @@ ghost use Rattle.d3d_checks.specs.Asked.{refusal_of};
 ghost use Rattle.d3d_model.specs.Past.{Past};
 ghost use Rattle.d3d_state.specs.Meaning.{objects_of};
 
+use d3d_model::codes::DO_NOT_WAIT;
 use d3d_resources::is_id;
-use d3d_state::Objects;
+use d3d_state::{Objects, Sort};
 use dx_types::Refusal;
 
 /// Why a query is not created.
@@ -16,7 +17,7 @@ pub(crate) fn create_query_refusal(objects: &Objects, id: u32, sort: u32) -> Opt
         Some(Refusal::OutOfRange)
     } else if objects.query(id).is_some() {
         Some(Refusal::IdInUse)
-    } else if sort > 3 {
+    } else if Sort::from_number(sort).is_none() {
         Some(Refusal::BadUsage)
     } else {
         None
@@ -52,7 +53,7 @@ pub(crate) fn get_data_refusal(objects: &Objects, id: u32, flag: u32) -> Option<
     let Some(query) = objects.query(id) else {
         return Some(Refusal::UnknownId);
     };
-    if flag > 1 {
+    if flag > DO_NOT_WAIT {
         Some(Refusal::BadUsage)
     } else if !query.has_result() {
         Some(Refusal::QueryState)

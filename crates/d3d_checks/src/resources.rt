@@ -1,29 +1,30 @@
 ghost use Rattle.std.specs.Prelude.{◌≡◌, ◌∷◌, [], not};
 ghost use Rattle.call_log.specs.Call as calls;
 ghost use Rattle.d3d_checks.specs.Asked.{refusal_of};
-ghost use Rattle.d3d_checks.specs.NewViews.{shape_checks, view_call};
+ghost use Rattle.d3d_checks.specs.NewViews.{checks_by, view_call};
 ghost use Rattle.d3d_model.specs.Check.{first_failed};
 ghost use Rattle.d3d_model.specs.Past.{Past};
 ghost use Rattle.d3d_model.specs.Resource.{usage_from};
-ghost use Rattle.d3d_resources.specs.Creation.{creation_checks, is_wrong_usage, is_wrong_data};
+ghost use Rattle.d3d_model.specs.Verdict.{is_wrong_data, is_wrong_usage};
+ghost use Rattle.d3d_resources.specs.Creation.{creation_checks};
 ghost use Rattle.d3d_views.specs.Creation.{is_wrong_form};
 ghost use Rattle.d3d_state.specs.Meaning.{objects_of};
 
 use crate::new_view::{NewView, described};
+use d3d_model::ObjectClass;
+use d3d_model::codes::{
+    IMMUTABLE_USAGE, RAW_FORM, STAGING_USAGE, STRUCTURED_FORM, TYPED_FORM, WRITE_VIEW,
+};
 use d3d_resources::is_id;
 use d3d_state::Objects;
 use d3d_views::{lacks_bind, view_span};
 use dx_types::{Refusal, Shape};
 
-const LAST_USAGE: u32 = 3;
-
-const IMMUTABLE: u32 = 1;
-
 /// Whether no usage has this number, or an immutable buffer would have no data.
 fn is_wrong_usage(usage: u32, bytes: &[u8]) -> bool
     ensures { result ≡ is_wrong_usage usage bytes.now }
 {
-    usage > LAST_USAGE || (usage == IMMUTABLE && bytes.is_empty())
+    usage > STAGING_USAGE || (usage == IMMUTABLE_USAGE && bytes.is_empty())
 }
 
 /// Whether there is data, of another length than the buffer's.
@@ -76,13 +77,13 @@ pub(crate) fn view_refusal(objects: &Objects, ask: &NewView) -> Option<Refusal>
 
 /// Why a view is not created on a buffer of this shape.
 fn shape_refusal(shape: &Shape, ask: &NewView) -> Option<Refusal>
-    ensures { result ≡ first_failed (shape_checks shape.now ask.now) }
+    ensures { result ≡ first_failed (checks_by shape.now ask.now) }
 {
-    if ask.kind > 1 {
+    if ask.kind > WRITE_VIEW {
         return Some(Refusal::BadBind);
     }
     if is_wrong_form(ask.form, ask.components) {
-        return Some(if lacks_bind(shape, ask.kind == 1) {
+        return Some(if lacks_bind(shape, ask.kind == WRITE_VIEW) {
             Refusal::BadBind
         } else {
             Refusal::BadFormat
@@ -99,28 +100,29 @@ fn is_wrong_form(form: u32, components: u32) -> bool
     ensures { result ≡ is_wrong_form form components }
 {
     match form {
-        0 | 1 => components != 0,
-        2 => !matches!(components, 1 | 2 | 4),
+        RAW_FORM | STRUCTURED_FORM => components != 0,
+        TYPED_FORM => !matches!(components, 1 | 2 | 4),
         _ => true,
     }
 }
 
-/// Why an object is not destroyed. Its class is 1 for a buffer, 2 for a view, 3 for a shader, 4 for a query, and 5 for a
-/// command list; no list is live.
+/// Why an object is not destroyed. No command list is live.
 pub(crate) fn destroy_refusal(objects: &Objects, class: u32, id: u32) -> Option<Refusal>
     ensures { (past : Past) → result ≡ refusal_of (objects_of objects.now) past (calls.Destroy class id) }
 {
+    let Some(class) = ObjectClass::from_number(class) else {
+        return Some(Refusal::BadUsage);
+    };
     match class {
-        1 => refusal_if(objects.buffer(id).is_some(), objects.uses_buffer(id)),
-        2 => refusal_if(objects.view(id).is_some(), objects.uses_view(id)),
-        3 => refusal_if(objects.shader(id).is_some(), objects.uses_shader(id)),
-        4 => refusal_if(objects.query(id).is_some(), objects.uses_query(id)),
-        5 => Some(Refusal::UnknownList),
-        _ => Some(Refusal::BadUsage),
+        ObjectClass::Buffer => refusal_if(objects.buffer(id).is_some(), objects.uses_buffer(id)),
+        ObjectClass::View => refusal_if(objects.view(id).is_some(), objects.uses_view(id)),
+        ObjectClass::Shader => refusal_if(objects.shader(id).is_some(), objects.uses_shader(id)),
+        ObjectClass::Query => refusal_if(objects.query(id).is_some(), objects.uses_query(id)),
+        ObjectClass::List => Some(Refusal::UnknownList),
     }
 }
 
-// Why an object is not destroyed, by whether it is live, and whether it is in use.
+/// Why an object is not destroyed, by whether it is live, and whether it is in use.
 fn refusal_if(live: bool, used: bool) -> Option<Refusal>
     ensures { result ≡ first_failed ((not live, Refusal.UnknownId) ∷ (used, Refusal.IdInUse) ∷ []) }
 {

@@ -1,12 +1,14 @@
-ghost use Rattle.std.specs.Prelude.{◌≡◌, ℕ};
+ghost use Rattle.std.specs.Prelude.{◌≡◌, ℕ, ◌==◌, ◌&&◌, ◌∷◌, [], not};
 ghost use Rattle.call_log.specs.Call as calls;
 ghost use Rattle.d3d_checks.specs.Asked.{refusal_of};
 ghost use Rattle.d3d_model.specs.Check.{first_failed};
 ghost use Rattle.d3d_model.specs.Past.{Past};
+ghost use Rattle.d3d_model.specs.declared.codes.TheConstants.{QUERY_PREDICATE, WORD_PREDICATE};
 ghost use Rattle.d3d_model.specs.Verdict.{predicate_checks};
 ghost use Rattle.d3d_state.specs.Meaning.{objects_of};
 
 use crate::numbers::passes_end;
+use d3d_model::PredicateKind;
 use d3d_resources::has_bit;
 use d3d_state::Objects;
 use dx_types::Refusal;
@@ -66,7 +68,7 @@ pub(crate) fn uav_refusal(objects: &Objects, slot: u32, view: u32) -> Option<Ref
     }
 }
 
-/// Why a predicate is not set: of kind 0 none, of kind 1 a query, of kind 2 a word of a buffer.
+/// Why a predicate is not set.
 pub(crate) fn predication_refusal(
     objects: &Objects,
     kind: u32,
@@ -76,22 +78,33 @@ pub(crate) fn predication_refusal(
 ) -> Option<Refusal>
     ensures { (past : Past) → result ≡ refusal_of (objects_of objects.now) past (calls.SetPredication kind id offset value) }
 {
-    if kind > 2 {
-        Some(Refusal::BadUsage)
-    } else if value > 1 || (kind == 0 && !(id == 0 && offset == 0 && value == 0)) {
-        Some(Refusal::OutOfRange)
-    } else if kind == 1 {
-        query_refusal(objects, id, offset)
-    } else if kind == 2 {
-        word_refusal(objects, id, offset)
-    } else {
+    let Some(kind) = PredicateKind::from_number(kind) else {
+        return Some(Refusal::BadUsage);
+    };
+    if value > 1 {
+        return Some(Refusal::OutOfRange);
+    }
+    match kind {
+        PredicateKind::Never => never_refusal(id, offset, value),
+        PredicateKind::Query => query_refusal(objects, id, offset),
+        PredicateKind::Word => word_refusal(objects, id, offset),
+    }
+}
+
+/// Why no predicate is not set: it names nothing.
+fn never_refusal(id: u32, offset: u32, value: u32) -> Option<Refusal>
+    ensures { result ≡ first_failed ((not ((id == 0) && (offset == 0) && (value == 0)), Refusal.OutOfRange) ∷ []) }
+{
+    if id == 0 && offset == 0 && value == 0 {
         None
+    } else {
+        Some(Refusal::OutOfRange)
     }
 }
 
 /// Why a query is no predicate.
 fn query_refusal(objects: &Objects, id: u32, offset: u32) -> Option<Refusal>
-    ensures { result ≡ first_failed (predicate_checks (objects_of objects.now) 1 id offset) }
+    ensures { result ≡ first_failed (predicate_checks (objects_of objects.now) QUERY_PREDICATE id offset) }
 {
     let Some(query) = objects.query(id) else {
         return Some(Refusal::UnknownId);
@@ -107,7 +120,7 @@ fn query_refusal(objects: &Objects, id: u32, offset: u32) -> Option<Refusal>
 
 /// Why a word of a buffer is no predicate.
 fn word_refusal(objects: &Objects, res: u32, offset: u32) -> Option<Refusal>
-    ensures { result ≡ first_failed (predicate_checks (objects_of objects.now) 2 res offset) }
+    ensures { result ≡ first_failed (predicate_checks (objects_of objects.now) WORD_PREDICATE res offset) }
 {
     let Some(shape) = objects.buffer(res) else {
         return Some(Refusal::UnknownId);

@@ -8,6 +8,7 @@ ghost use Rattle.d3d_memory.specs.Limits.{InLimits};
 use crate::Memory;
 use crate::dispatch::dispatch;
 use call_log::Call;
+use d3d_model::codes::{BUFFER_CLASS, MAP_DISCARD};
 use d3d_state::Objects;
 use std::alloc::AllocError;
 
@@ -28,7 +29,7 @@ fn make(memory: &mut Memory, call: &Call<'_>) -> Result<(), AllocError>
             Ok(())
         }
         Call::Destroy { class, id } => {
-            if *class == 1 {
+            if *class == BUFFER_CLASS {
                 memory.destroy(*id);
             }
             Ok(())
@@ -85,7 +86,7 @@ fn run(memory: &mut Memory, objects: &Objects, call: &Call<'_>) -> Result<(), Al
             offset,
             bytes,
         } => {
-            if *mode == 0 {
+            if *mode == MAP_DISCARD {
                 memory.discard(*res, *offset, bytes);
             } else {
                 memory.write(*res, *offset, bytes);

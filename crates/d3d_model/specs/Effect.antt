@@ -2,6 +2,7 @@
 use Rattle.std.specs.Prelude.{ℕ, ◌==◌, true, false, List, [], ◌∷◌, ◌++◌, slice_set, Option, None, Some, if◌then◌else◌}
 use Rattle.call_log.specs.Call as calls
 use Rattle.call_log.specs.Call.{Call}
+use Rattle.d3d_model.specs.declared.codes.TheConstants.{BUFFER_CLASS, QUERY_CLASS, RESTORE_STATE, SHADER_CLASS, VIEW_CLASS}
 use Rattle.d3d_model.specs.IdMap as ids
 use Rattle.d3d_model.specs.IdMap.{IdMap}
 use Rattle.d3d_model.specs.Resource.{usage_from}
@@ -15,10 +16,10 @@ use Rattle.d3d_model.specs.Verdict.{Place, OnDevice, OnImmediate, OnEach, OnDefe
 
 abbrev pub destroyed : Objects → ℕ → ℕ → Objects
 destroyed o class id =
-    if class == 1 then record o { buffers = ids.remove o.buffers id }
-    else if class == 2 then record o { views = ids.remove o.views id }
-    else if class == 3 then record o { shaders = ids.remove o.shaders id }
-    else if class == 4 then record o { queries = ids.remove o.queries id }
+    if class == BUFFER_CLASS then record o { buffers = ids.remove o.buffers id }
+    else if class == VIEW_CLASS then record o { views = ids.remove o.views id }
+    else if class == SHADER_CLASS then record o { shaders = ids.remove o.shaders id }
+    else if class == QUERY_CLASS then record o { queries = ids.remove o.queries id }
     else record o { lists = ids.remove o.lists id }
 
 abbrev pub made_by : ℕ → Objects → Call → Objects
@@ -62,7 +63,7 @@ list_start o = with_bindings o 0 default_bindings
 -- a list's calls from the default state, and then what was set is set again, or the default state
 abbrev pub executed : ℕ → Objects → ℕ → ℕ → Objects
 executed n o list flag =
-    with_bindings (played_all n (list_start o) (calls_of_list o list)) 0 (if flag == 1 then bindings_of o 0 else default_bindings)
+    with_bindings (played_all n (list_start o) (calls_of_list o list)) 0 (if flag == RESTORE_STATE then bindings_of o 0 else default_bindings)
 
 -- ---- calls on a deferred context
 

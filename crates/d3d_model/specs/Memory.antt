@@ -5,6 +5,7 @@ use Rattle.dx_types.specs.declared.shape.ViewShape.{ViewShape}
 use Rattle.dx_types.specs.declared.range.ResRange.{ResRange}
 use Rattle.dx_types.specs.declared.shape.Form.{Form}
 use Rattle.dx_types.specs.declared.shape.Form.TheVariants.{Raw, Structured, Typed}
+use Rattle.d3d_model.specs.declared.codes.TheConstants.{BUFFER_CLASS, MAP_DISCARD}
 use Rattle.call_log.specs.Call as calls
 use Rattle.call_log.specs.Call.{Call}
 use Rattle.d3d_model.specs.IdMap as ids
@@ -163,7 +164,7 @@ no_counts m query = record m { begun_at = ids.remove m.begun_at query; counts = 
 abbrev pub made : Memory → Call → Memory
 made m (calls.Buffer id size usage bind misc stride bytes) = record m { bytes = ids.insert m.bytes id (filled size bytes) }
 made m (calls.Query id sort) = no_counts m id
-made m (calls.Destroy class id) = if class == 1 then record m { bytes = ids.remove m.bytes id } else m
+made m (calls.Destroy class id) = if class == BUFFER_CLASS then record m { bytes = ids.remove m.bytes id } else m
 made m _ = m
 
 -- a call that may stand in a list, played on the immediate context
@@ -184,7 +185,7 @@ run o m (calls.ClearUav view v0 v1 v2 v3) =
     unless_skipped m (bindings_of o 0).predicate (cleared m (bound_view o view) (v0 ∷ v1 ∷ v2 ∷ v3 ∷ []))
 run o m (calls.Begin query) = begun_count m query
 run o m (calls.EndQuery query) = ended_count m query
-run o m (calls.MapWrite res mode offset bytes) = if mode == 0 then discarded m res offset bytes else write m res offset bytes
+run o m (calls.MapWrite res mode offset bytes) = if mode == MAP_DISCARD then discarded m res offset bytes else write m res offset bytes
 run o m _ = m
 
 -- the calls of a list, each on the objects that it meets

@@ -6,6 +6,7 @@ use Rattle.dx_types.specs.declared.refusal.Refusal.{Refusal}
 use Rattle.dx_types.specs.declared.reply.Reply as reply
 use Rattle.dx_types.specs.declared.reply.Reply.TheVariants as said
 use Rattle.dx_types.specs.Line.{line}
+use Rattle.d3d_model.specs.declared.codes.TheConstants.{EVENT_QUERY, STATISTICS_QUERY}
 use Rattle.call_log.specs.Call as calls
 use Rattle.call_log.specs.Call.{Call, Issued}
 use Rattle.d3d_model.specs.IdMap as ids
@@ -23,12 +24,12 @@ abbrev pub none_pending : Pending
 none_pending = ids.empty
 
 abbrev pub sort_if : Option Query → ℕ
-sort_if None = 0
+sort_if None = EVENT_QUERY
 sort_if (Some q) = q.sort
 
 -- an event has happened, occlusion is 0 without draws, statistics are the invocations counted
 abbrev pub query_value : ℕ → ℕ → ℕ
-query_value sort count = if sort == 0 then 1 else if sort == 2 then count else 0
+query_value sort count = if sort == EVENT_QUERY then 1 else if sort == STATISTICS_QUERY then count else 0
 
 -- the answer to an accepted call n, if it has one
 abbrev pub answer : ℕ → State → Call → Option reply.Reply

@@ -2,6 +2,7 @@
 use Rattle.std.specs.Prelude.{ℕ, ◌+◌, ◌==◌, min, Bool, false, ◌&&◌, ◌||◌, List, [], ◌∷◌, ◌++◌, map, length, if◌then◌else◌}
 use Rattle.std.specs.List.{list_any, flat_map}
 use Rattle.dx_types.specs.declared.range.ResRange.{ResRange}
+use Rattle.d3d_model.specs.declared.codes.TheConstants.{BUFFER_CLASS, COUNT_BYTES, MAP_DISCARD, MAP_WRITE, NO_PREDICATE, QUERY_CLASS, QUERY_PREDICATE, SHADER_CLASS, VIEW_CLASS}
 use Rattle.call_log.specs.Call as calls
 use Rattle.call_log.specs.Call.{Call}
 use Rattle.d3d_model.specs.IdMap as ids
@@ -17,7 +18,7 @@ use Rattle.std.specs.Option.{option_to_list}
 
 abbrev pub predicate_from : ℕ → ℕ → ℕ → ℕ → Predicate
 predicate_from kind id offset value =
-    if kind == 0 then binding.Never else if kind == 1 then binding.Query id value else binding.Word id offset value
+    if kind == NO_PREDICATE then binding.Never else if kind == QUERY_PREDICATE then binding.Query id value else binding.Word id offset value
 
 -- the bindings of a context after a call on it
 abbrev pub set_by : Objects → Bindings → Call → Bindings
@@ -54,17 +55,17 @@ dispatch_ranges o b = map (cut o) (constant_ranges b) ++ view_ranges b
 -- the ranges that an accepted call binds, where these bindings are set
 abbrev pub binds : Objects → Bindings → Call → List ResRange
 binds o b (calls.Dispatch x y z) = dispatch_ranges o b
-binds o b (calls.DispatchIndirect res offset) = range_of res offset 12 ++ dispatch_ranges o b
+binds o b (calls.DispatchIndirect res offset) = range_of res offset COUNT_BYTES ++ dispatch_ranges o b
 binds o b (calls.CopyRegion target target_offset source source_offset len) = predicated b (range_of source source_offset len ++ range_of target target_offset len)
 binds o b (calls.Copy target source) = predicated b (whole_of o source ++ whole_of o target)
 binds o b (calls.Update res offset bytes) = predicated b (range_of res offset (length bytes))
 binds o b (calls.ClearUav view v0 v1 v2 v3) = predicated b (option_to_list (bound_range (bound_view o view)))
-binds o b (calls.MapWrite res mode offset bytes) = if mode == 2 then range_of res offset (length bytes) else []
+binds o b (calls.MapWrite res mode offset bytes) = if mode == MAP_WRITE then range_of res offset (length bytes) else []
 binds o b _ = []
 
--- a map of mode 0 discards what the buffer holds
+-- what the buffer holds is discarded
 abbrev pub discarded_by : Call → List Deed
-discarded_by (calls.MapWrite res mode offset bytes) = if mode == 0 then past.Discards res ∷ [] else []
+discarded_by (calls.MapWrite res mode offset bytes) = if mode == MAP_DISCARD then past.Discards res ∷ [] else []
 discarded_by _ = []
 
 -- the deeds of a call that may stand in a list
@@ -109,8 +110,7 @@ begun_in_list cs = flat_map (λ c. begins c.call) cs
 
 -- ---- what a call names
 
--- An object, by its class as `destroy` has it: 1 resource, 2 view, 3 shader, 4 query. No object has id 0, so a slot that is
--- emptied by it names none.
+-- An object, by its class as a destruction has it. No object has id 0, so a slot that is emptied by it names none.
 pub record Name : Type 0 where
   pub class : ℕ
   pub id : ℕ
@@ -120,19 +120,19 @@ name class id = record { class = class; id = id } ∷ []
 
 -- the objects that a call on a deferred context names
 abbrev pub names : Call → List Name
-names (calls.SetShader id) = name 3 id
-names (calls.SetConstant slot res) = name 1 res
-names (calls.SetSrv slot view) = name 2 view
-names (calls.SetUav slot view) = name 2 view
-names (calls.DispatchIndirect res offset) = name 1 res
-names (calls.CopyRegion target target_offset source source_offset len) = name 1 target ++ name 1 source
-names (calls.Copy target source) = name 1 target ++ name 1 source
-names (calls.Update res offset bytes) = name 1 res
-names (calls.ClearUav view v0 v1 v2 v3) = name 2 view
-names (calls.SetPredication kind id offset value) = if kind == 1 then name 4 id else name 1 id
-names (calls.Begin query) = name 4 query
-names (calls.EndQuery query) = name 4 query
-names (calls.MapWrite res mode offset bytes) = name 1 res
+names (calls.SetShader id) = name SHADER_CLASS id
+names (calls.SetConstant slot res) = name BUFFER_CLASS res
+names (calls.SetSrv slot view) = name VIEW_CLASS view
+names (calls.SetUav slot view) = name VIEW_CLASS view
+names (calls.DispatchIndirect res offset) = name BUFFER_CLASS res
+names (calls.CopyRegion target target_offset source source_offset len) = name BUFFER_CLASS target ++ name BUFFER_CLASS source
+names (calls.Copy target source) = name BUFFER_CLASS target ++ name BUFFER_CLASS source
+names (calls.Update res offset bytes) = name BUFFER_CLASS res
+names (calls.ClearUav view v0 v1 v2 v3) = name VIEW_CLASS view
+names (calls.SetPredication kind id offset value) = if kind == QUERY_PREDICATE then name QUERY_CLASS id else name BUFFER_CLASS id
+names (calls.Begin query) = name QUERY_CLASS query
+names (calls.EndQuery query) = name QUERY_CLASS query
+names (calls.MapWrite res mode offset bytes) = name BUFFER_CLASS res
 names _ = []
 
 abbrev pub is_name : ℕ → ℕ → Name → Bool

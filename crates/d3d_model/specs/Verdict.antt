@@ -6,6 +6,11 @@ use Rattle.dx_types.specs.declared.refusal.Refusal.TheVariants.{UnknownId, IdInU
 use Rattle.dx_types.specs.declared.shape.Shape.{Shape}
 use Rattle.dx_types.specs.declared.shape.ViewShape.{ViewShape}
 use Rattle.dx_types.specs.declared.limits.TheConstants.{CONSTANT_BUFFER, CONSTANT_SLOTS, DEFERRED_CONTEXTS, INDIRECT_ARGUMENTS, KNOWN_BITS, MAX_BUFFER_SIZE, MAX_CONSTANT_SIZE, MAX_DYNAMIC_OF_CLASS, MAX_DYNAMIC_SIZE, MAX_LIST_CALLS, MAX_LIVE_BYTES, MAX_STRIDE, MIN_STRIDE, RAW_VIEWS, SHADER_RESOURCE, SRV_SLOTS, STRUCTURED, UAV_SLOTS, UNORDERED_ACCESS}
+use Rattle.d3d_model.specs.declared.codes.TheConstants.{BUFFER_CLASS, COUNT_BYTES, DO_NOT_WAIT, DYNAMIC_USAGE, EVENT_QUERY, IMMUTABLE_USAGE, LIST_CLASS, MAP_NO_OVERWRITE, MAP_WRITE, NO_PREDICATE, PREDICATE_QUERY, QUERY_CLASS, QUERY_PREDICATE, RESTORE_STATE, SHADER_CLASS, STAGING_USAGE, TYPED_FORM, VIEW_CLASS, WORD_PREDICATE, WRITE_VIEW}
+pub use Rattle.call_log.specs.declared.kinds.Place.{Place}
+pub use Rattle.call_log.specs.declared.kinds.Place.TheVariants.{OnDevice, OnImmediate, OnEach, OnDeferred}
+use Rattle.call_log.specs.Kinds.{Kind, kinds}
+use Rattle.call_log.specs.Put.{kind_of_call}
 use Rattle.call_log.specs.Call as calls
 use Rattle.call_log.specs.Call.{Call, Issued}
 use Rattle.d3d_model.specs.IdMap as ids
@@ -21,25 +26,15 @@ use Rattle.d3d_model.specs.Stream.{past_of_list, begun_after, begun_in_list, is_
 
 -- ---- where a kind may stand
 
--- on context 0 as a call of the device, on context 0 alone, on each context, on the deferred ones
-pub data Place : Type 0 where
-  OnDevice : Place
-  OnImmediate : Place
-  OnEach : Place
-  OnDeferred : Place
+-- where the kind of a number may stand
+abbrev pub place_among : ℕ → List Kind → Place
+place_among n [] = OnEach
+place_among n (k ∷ ks) = if k.number == n then k.place else place_among n ks
 
+-- where a call may stand, as the table of the kinds says
 abbrev pub place_of : Call → Place
-place_of (calls.Buffer id size usage bind misc stride bytes) = OnDevice
-place_of (calls.View view res kind form components first count) = OnDevice
-place_of (calls.CreateShader id words) = OnDevice
-place_of (calls.Query id sort) = OnDevice
-place_of (calls.Destroy class id) = OnDevice
-place_of (calls.MapRead res flag offset len) = OnImmediate
-place_of (calls.GetData query flag) = OnImmediate
-place_of calls.Flush = OnImmediate
-place_of (calls.ExecuteList list flag) = OnImmediate
-place_of (calls.FinishList list) = OnDeferred
-place_of _ = OnEach
+place_of (calls.Draw kind body) = OnEach
+place_of c = place_among (kind_of_call c) kinds
 
 abbrev pub is_wrong_at : Place → ℕ → Bool
 is_wrong_at OnDevice x = not (x == 0)
@@ -99,27 +94,59 @@ is_begun_on o x query = if x == 0 then query_is o query (λ q. q.begun) else beg
 abbrev pub has_bytes : List ℕ → Bool
 has_bytes bytes = nat_lt 0 (length bytes)
 
+-- an unknown usage, or an immutable buffer without bytes
+abbrev pub is_wrong_usage : ℕ → List ℕ → Bool
+is_wrong_usage usage bytes = nat_lt STAGING_USAGE usage || ((usage == IMMUTABLE_USAGE) && not (has_bytes bytes))
+
+-- data of another length than the buffer's
+abbrev pub is_wrong_data : ℕ → List ℕ → Bool
+is_wrong_data size bytes = has_bytes bytes && not (length bytes == size)
+
+-- no whole number of words, or more than a buffer may have: a dynamic one may have less
+abbrev pub is_wrong_length : ℕ → Bool → Bool
+is_wrong_length size dynamic = (size == 0) || not (size % 4 == 0) || nat_lt MAX_BUFFER_SIZE size || (dynamic && nat_lt MAX_DYNAMIC_SIZE size)
+
+-- a constant buffer holds whole registers of 16 bytes, at most 4,096 of them
+abbrev pub is_wrong_constant : (bind size : ℕ) → Bool
+is_wrong_constant bind size = has bind CONSTANT_BUFFER && (not (size % 16 == 0) || nat_lt MAX_CONSTANT_SIZE size)
+
 abbrev pub bad_stride : ℕ → ℕ → Bool
 bad_stride size stride = not (stride % 4 == 0) || nat_lt stride MIN_STRIDE || nat_lt MAX_STRIDE stride || not (size % stride == 0)
+
+-- a structured buffer holds whole structures, and no other buffer has a stride
+abbrev pub is_wrong_stride : (misc size stride : ℕ) → Bool
+is_wrong_stride misc size stride = if has misc STRUCTURED then bad_stride size stride else not (stride == 0)
+
+-- a constant buffer is nothing else
+abbrev pub is_wrong_beside : ℕ → Bool
+is_wrong_beside bind = has bind CONSTANT_BUFFER && not (bind == CONSTANT_BUFFER)
+
+-- raw and structured views exclude each other
+abbrev pub has_both_forms : ℕ → Bool
+has_both_forms misc = has misc RAW_VIEWS && has misc STRUCTURED
+
+-- a buffer for raw or structured views is bound for reads or writes
+abbrev pub lacks_views : (bind misc : ℕ) → Bool
+lacks_views bind misc = (has misc RAW_VIEWS || has misc STRUCTURED) && not (has bind SHADER_RESOURCE || has bind UNORDERED_ACCESS)
 
 abbrev pub buffer_checks : Objects → ℕ → ℕ → ℕ → ℕ → ℕ → ℕ → List ℕ → List Check
 buffer_checks o id size usage bind misc stride bytes =
     (not (is_id id), OutOfRange)
     ∷ (is_live_buffer o id, IdInUse)
-    ∷ (nat_lt 3 usage || ((usage == 1) && not (has_bytes bytes)), BadUsage)
-    ∷ ((size == 0) || not (size % 4 == 0) || nat_lt MAX_BUFFER_SIZE size || ((usage == 2) && nat_lt MAX_DYNAMIC_SIZE size), BadSize)
-    ∷ (has_bytes bytes && not (length bytes == size), BadSize)
-    ∷ (has bind CONSTANT_BUFFER && (not (size % 16 == 0) || nat_lt MAX_CONSTANT_SIZE size), BadSize)
-    ∷ (if has misc STRUCTURED then bad_stride size stride else not (stride == 0), BadSize)
+    ∷ (is_wrong_usage usage bytes, BadUsage)
+    ∷ (is_wrong_length size (usage == DYNAMIC_USAGE), BadSize)
+    ∷ (is_wrong_data size bytes, BadSize)
+    ∷ (is_wrong_constant bind size, BadSize)
+    ∷ (is_wrong_stride misc size stride, BadSize)
     ∷ (nat_lt KNOWN_BITS bind || nat_lt KNOWN_BITS misc, BadBind)
-    ∷ (has bind CONSTANT_BUFFER && not (bind == CONSTANT_BUFFER), BadBind)
-    ∷ ((usage == 3) && not (bind == 0), BadBind)
-    ∷ ((usage == 2) && ((bind == 0) || has bind UNORDERED_ACCESS), BadBind)
-    ∷ ((usage == 1) && has bind UNORDERED_ACCESS, BadBind)
-    ∷ (has misc RAW_VIEWS && has misc STRUCTURED, BadBind)
-    ∷ ((has misc RAW_VIEWS || has misc STRUCTURED) && not (has bind SHADER_RESOURCE || has bind UNORDERED_ACCESS), BadBind)
+    ∷ (is_wrong_beside bind, BadBind)
+    ∷ ((usage == STAGING_USAGE) && not (bind == 0), BadBind)
+    ∷ ((usage == DYNAMIC_USAGE) && ((bind == 0) || has bind UNORDERED_ACCESS), BadBind)
+    ∷ ((usage == IMMUTABLE_USAGE) && has bind UNORDERED_ACCESS, BadBind)
+    ∷ (has_both_forms misc, BadBind)
+    ∷ (lacks_views bind misc, BadBind)
     ∷ (nat_lt MAX_LIVE_BYTES (live_bytes o.buffers + size), TooMuchMemory)
-    ∷ ((usage == 2) && nat_le MAX_DYNAMIC_OF_CLASS (live_dynamic o.buffers (class_of size)), TooManyDynamic)
+    ∷ ((usage == DYNAMIC_USAGE) && nat_le MAX_DYNAMIC_OF_CLASS (live_dynamic o.buffers (class_of size)), TooManyDynamic)
     ∷ []
 
 -- ---- views
@@ -128,23 +155,27 @@ abbrev pub stride_of : Option Shape → ℕ
 stride_of None = 0
 stride_of (Some s) = s.stride
 
+-- the view that a call describes, of a buffer of this stride
+abbrev pub described_on : (stride res kind form components first count : ℕ) → ViewShape
+described_on stride res kind form components first count =
+    record { res = res; writable = kind == WRITE_VIEW; form = form_from form; unit = unit_of (form_from form) stride components; first = first; count = count }
+
 -- the view that a call describes
 abbrev pub described : Objects → ℕ → ℕ → ℕ → ℕ → ℕ → ℕ → ViewShape
-described o res kind form components first count =
-    record { res = res; writable = kind == 1; form = form_from form; unit = unit_of (form_from form) (stride_of (buffer_of o res)) components; first = first; count = count }
+described o res kind form components first count = described_on (stride_of (buffer_of o res)) res kind form components first count
 
 -- the components don't go with the form
 abbrev pub bad_components : ℕ → ℕ → Bool
 bad_components form components =
-    if form == 2 then not ((components == 1) || (components == 2) || (components == 4)) else not (components == 0)
+    if form == TYPED_FORM then not ((components == 1) || (components == 2) || (components == 4)) else not (components == 0)
 
 abbrev pub view_checks : Objects → ViewShape → ℕ → ℕ → ℕ → ℕ → List Check
 view_checks o v view kind form components =
     (not (is_id view), OutOfRange)
     ∷ (not (is_live_buffer o v.res), UnknownId)
     ∷ (is_live_view o view, IdInUse)
-    ∷ (nat_lt 1 kind || buffer_is o v.res (λ s. lacks_bind s v.writable), BadBind)
-    ∷ (nat_lt 2 form || bad_components form components || buffer_is o v.res (λ s. lacks_form s v.form), BadFormat)
+    ∷ (nat_lt WRITE_VIEW kind || buffer_is o v.res (λ s. lacks_bind s v.writable), BadBind)
+    ∷ (nat_lt TYPED_FORM form || bad_components form components || buffer_is o v.res (λ s. lacks_form s v.form), BadFormat)
     ∷ (buffer_is o v.res (λ s. is_outside s v), OutOfRange)
     ∷ []
 
@@ -159,17 +190,17 @@ has_view o res = list_any (λ (v : ViewShape). v.res == res) (ids.values o.views
 
 -- a live object that nothing uses
 abbrev pub unused_buffer : Objects → ℕ → List Check
-unused_buffer o id = (not (is_live_buffer o id), UnknownId) ∷ (is_set o (λ b. holds_buffer b id) || is_listed o 1 id || has_view o id, IdInUse) ∷ []
+unused_buffer o id = (not (is_live_buffer o id), UnknownId) ∷ (is_set o (λ b. holds_buffer b id) || is_listed o BUFFER_CLASS id || has_view o id, IdInUse) ∷ []
 
 abbrev pub unused_view : Objects → ℕ → List Check
-unused_view o id = (not (is_live_view o id), UnknownId) ∷ (is_set o (λ b. holds_view b id) || is_listed o 2 id, IdInUse) ∷ []
+unused_view o id = (not (is_live_view o id), UnknownId) ∷ (is_set o (λ b. holds_view b id) || is_listed o VIEW_CLASS id, IdInUse) ∷ []
 
 abbrev pub unused_shader : Objects → ℕ → List Check
-unused_shader o id = (not (is_live_shader o id), UnknownId) ∷ (is_set o (λ b. holds_shader b id) || is_listed o 3 id, IdInUse) ∷ []
+unused_shader o id = (not (is_live_shader o id), UnknownId) ∷ (is_set o (λ b. holds_shader b id) || is_listed o SHADER_CLASS id, IdInUse) ∷ []
 
 abbrev pub unused_query : Objects → ℕ → List Check
 unused_query o id =
-    (not (is_live_query o id), UnknownId) ∷ (is_set o (λ b. holds_query b id) || is_listed o 4 id || query_is o id (λ q. q.begun), IdInUse) ∷ []
+    (not (is_live_query o id), UnknownId) ∷ (is_set o (λ b. holds_query b id) || is_listed o QUERY_CLASS id || query_is o id (λ q. q.begun), IdInUse) ∷ []
 
 -- a list is never in use
 abbrev pub known_list : Objects → ℕ → List Check
@@ -177,11 +208,11 @@ known_list o id = (not (is_live_list o id), UnknownList) ∷ []
 
 abbrev pub destroy_checks : Objects → ℕ → ℕ → List Check
 destroy_checks o class id =
-    if class == 1 then unused_buffer o id
-    else if class == 2 then unused_view o id
-    else if class == 3 then unused_shader o id
-    else if class == 4 then unused_query o id
-    else if class == 5 then known_list o id
+    if class == BUFFER_CLASS then unused_buffer o id
+    else if class == VIEW_CLASS then unused_view o id
+    else if class == SHADER_CLASS then unused_shader o id
+    else if class == QUERY_CLASS then unused_query o id
+    else if class == LIST_CLASS then known_list o id
     else (true, BadUsage) ∷ []
 
 -- ---- dispatches
@@ -204,12 +235,12 @@ copy_checks o target source =
 
 abbrev pub predicate_checks : Objects → ℕ → ℕ → ℕ → List Check
 predicate_checks o kind id offset =
-    if kind == 1 then
+    if kind == QUERY_PREDICATE then
     (not (is_live_query o id), UnknownId)
-    ∷ (not (query_is o id (λ q. (q.sort == 3) && has_result q)), QueryState)
+    ∷ (not (query_is o id (λ q. (q.sort == PREDICATE_QUERY) && has_result q)), QueryState)
     ∷ (not (offset == 0), OutOfRange)
     ∷ []
-    else if kind == 2 then
+    else if kind == WORD_PREDICATE then
     (not (is_live_buffer o id), UnknownId)
     ∷ (not (buffer_is o id (λ s. has s.misc INDIRECT_ARGUMENTS)), BadBind)
     ∷ (not (offset % 4 == 0) || passes_end o id offset 4, OutOfRange)
@@ -233,15 +264,15 @@ no_overwrite_checks o past x res offset bytes =
 
 abbrev pub not_mappable : Objects → ℕ → ℕ → Bool
 not_mappable o res mode =
-    nat_lt 2 mode || (nat_lt mode 2 && not (buffer_is o res (λ s. is_dynamic s.usage))) || ((mode == 2) && not (buffer_is o res (λ s. is_staging s.usage)))
+    nat_lt MAP_WRITE mode || (nat_lt mode MAP_WRITE && not (buffer_is o res (λ s. is_dynamic s.usage))) || ((mode == MAP_WRITE) && not (buffer_is o res (λ s. is_staging s.usage)))
 
 abbrev pub map_write_checks : Objects → Past → ℕ → ℕ → ℕ → ℕ → List ℕ → List Check
 map_write_checks o past x res mode offset bytes =
     (not (is_live_buffer o res), UnknownId)
     ∷ (not_mappable o res mode, NotMappable)
-    ∷ ((mode == 2) && not (x == 0), WrongContext)
+    ∷ ((mode == MAP_WRITE) && not (x == 0), WrongContext)
     ∷ (passes_end o res offset (length bytes), OutOfRange)
-    ∷ (if mode == 1 then no_overwrite_checks o past x res offset bytes else [])
+    ∷ (if mode == MAP_NO_OVERWRITE then no_overwrite_checks o past x res offset bytes else [])
 
 -- ---- all kinds
 
@@ -258,7 +289,7 @@ call_checks o past x (calls.CreateShader id words) =
 call_checks o past x (calls.Query id sort) =
     (not (is_id id), OutOfRange)
     ∷ (is_live_query o id, IdInUse)
-    ∷ (nat_lt 3 sort, BadUsage)
+    ∷ (nat_lt PREDICATE_QUERY sort, BadUsage)
     ∷ []
 call_checks o past x (calls.Destroy class id) = destroy_checks o class id
 call_checks o past x (calls.SetShader id) = (is_named id && not (is_live_shader o id), UnknownId) ∷ []
@@ -285,7 +316,7 @@ call_checks o past x (calls.Dispatch gx gy gz) =
 call_checks o past x (calls.DispatchIndirect res offset) =
     (not (is_live_buffer o res), UnknownId)
     ∷ (not (buffer_is o res (λ s. has s.misc INDIRECT_ARGUMENTS)), BadBind)
-    ∷ (not (offset % 4 == 0) || passes_end o res offset 12, OutOfRange)
+    ∷ (not (offset % 4 == 0) || passes_end o res offset COUNT_BYTES, OutOfRange)
     ∷ (not (has_shader o x), BadShader)
     ∷ []
 call_checks o past x (calls.CopyRegion target target_offset source source_offset len) =
@@ -302,26 +333,26 @@ call_checks o past x (calls.ClearUav view v0 v1 v2 v3) =
     ∷ (not (is_writable o view), BadBind)
     ∷ []
 call_checks o past x (calls.SetPredication kind id offset value) =
-    (nat_lt 2 kind, BadUsage)
-    ∷ (nat_lt 1 value || ((kind == 0) && not ((id == 0) && (offset == 0) && (value == 0))), OutOfRange)
+    (nat_lt WORD_PREDICATE kind, BadUsage)
+    ∷ (nat_lt 1 value || ((kind == NO_PREDICATE) && not ((id == 0) && (offset == 0) && (value == 0))), OutOfRange)
     ∷ predicate_checks o kind id offset
 call_checks o past x (calls.Begin query) =
     (not (is_live_query o query), UnknownId)
-    ∷ (query_is o query (λ q. q.sort == 0) || is_begun_on o x query, QueryState)
+    ∷ (query_is o query (λ q. q.sort == EVENT_QUERY) || is_begun_on o x query, QueryState)
     ∷ []
 call_checks o past x (calls.EndQuery query) =
     (not (is_live_query o query), UnknownId)
-    ∷ (not (query_is o query (λ q. q.sort == 0)) && not (is_begun_on o x query), QueryState)
+    ∷ (not (query_is o query (λ q. q.sort == EVENT_QUERY)) && not (is_begun_on o x query), QueryState)
     ∷ []
 call_checks o past x (calls.MapWrite res mode offset bytes) = map_write_checks o past x res mode offset bytes
 call_checks o past x (calls.MapRead res flag offset len) =
     (not (is_live_buffer o res), UnknownId)
-    ∷ (not (buffer_is o res (λ s. is_staging s.usage)) || nat_lt 1 flag, NotMappable)
+    ∷ (not (buffer_is o res (λ s. is_staging s.usage)) || nat_lt DO_NOT_WAIT flag, NotMappable)
     ∷ ((len == 0) || passes_end o res offset len, OutOfRange)
     ∷ []
 call_checks o past x (calls.GetData query flag) =
     (not (is_live_query o query), UnknownId)
-    ∷ (nat_lt 1 flag, BadUsage)
+    ∷ (nat_lt DO_NOT_WAIT flag, BadUsage)
     ∷ (not (query_is o query has_result), QueryState)
     ∷ []
 call_checks o past x calls.Flush = []
@@ -332,7 +363,7 @@ call_checks o past x (calls.FinishList list) =
     ∷ []
 call_checks o past x (calls.ExecuteList list flag) =
     (not (is_live_list o list), UnknownList)
-    ∷ (nat_lt 1 flag, BadUsage)
+    ∷ (nat_lt RESTORE_STATE flag, BadUsage)
     ∷ (list_any (λ q. query_is o q (λ s. s.begun)) (begun_in_list (calls_of_list o list)), QueryState)
     ∷ []
 call_checks o past x (calls.Draw kind body) = []

@@ -9,16 +9,17 @@ use Rattle.dx_types.specs.declared.range.ResRange.{ResRange}
 use Rattle.dx_types.specs.declared.shape.Form.{Form}
 use Rattle.dx_types.specs.declared.shape.Form.TheVariants.{Raw, Structured, Typed}
 use Rattle.dx_types.specs.declared.limits.TheConstants.{RAW_VIEWS, SHADER_RESOURCE, STRUCTURED, UNORDERED_ACCESS}
+use Rattle.d3d_model.specs.declared.codes.TheConstants.{RAW_FORM, STRUCTURED_FORM, TYPED_FORM}
 use Rattle.d3d_model.specs.Check.{Check, first_failed, has}
 
 -- the form of a number from 0 to 2
 abbrev pub form_from : ℕ → Form
-form_from n = if n == 0 then Raw else if n == 1 then Structured else Typed
+form_from n = if n == RAW_FORM then Raw else if n == STRUCTURED_FORM then Structured else Typed
 
 abbrev pub form_number : Form → ℕ
-form_number Raw = 0
-form_number Structured = 1
-form_number Typed = 2
+form_number Raw = RAW_FORM
+form_number Structured = STRUCTURED_FORM
+form_number Typed = TYPED_FORM
 
 -- the bytes of one element: a word, a structure, or so many words as there are components
 abbrev pub unit_of : Form → ℕ → ℕ → ℕ

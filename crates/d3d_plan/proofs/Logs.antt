@@ -12,8 +12,8 @@ state_next log i x is =
     (λ e. ap (after_call (suc i) (after_calls log i)) e) is
 
 pub plan_next : (log : List Issued) (i : ℕ) (x : Issued) → call_at log (i + 1) ≡ Some x
-    → plan_of log (i + 1) ≡ plan_of log i ++ planned_by (place_behind log i) (after_calls log i) (Some x) ∷ []
+    → plan_of log (i + 1) ≡ plan_of log i ++ planned_by (i + 1) (place_behind log i) (after_calls log i) (Some x) ∷ []
 unfolding plan_of
 plan_next log i x is =
-    subst (λ (n : ℕ). call_at log n ≡ Some x → plan_of log n ≡ plan_of log i ++ planned_by (place_behind log i) (after_calls log i) (Some x) ∷ []) (sym (add-one i))
-    (λ e. ap (λ (o : Option Issued). plan_of log i ++ planned_by (place_behind log i) (after_calls log i) o ∷ []) e) is
+    subst (λ (n : ℕ). call_at log n ≡ Some x → plan_of log n ≡ plan_of log i ++ planned_by n (place_behind log i) (after_calls log i) (Some x) ∷ []) (sym (add-one i))
+    (λ e. ap (λ (o : Option Issued). plan_of log i ++ planned_by (suc i) (place_behind log i) (after_calls log i) o ∷ []) e) is

@@ -13,9 +13,9 @@ use Rattle.d3d_state.specs.Meaning.{objects_of}
 use Rattle.d3d_state.specs.declared.objects.Objects as code
 use Rattle.d3d_uses.specs.Summary.{Uses}
 use Rattle.d3d_checks.specs.Accepted.{Tells, is_built, is_draw}
-use Rattle.d3d_checks.specs.Bound.{bound_of}
-use Rattle.d3d_checks.specs.Created.{token_words}
-use Rattle.d3d_plan.specs.Planned.{Planned, planned_by, span_in, words_unless}
+use Rattle.d3d_effects.specs.Bound.{bound_of}
+use Rattle.d3d_checks.specs.Created.{shader_made, token_words}
+use Rattle.d3d_plan.specs.Planned.{Planned, planned_by, shader_unless, span_in, words_unless}
 use Rattle.d3d_plan.specs.Stands.{Stands}
 
 -- a call that is no draw is built
@@ -30,23 +30,24 @@ abbrev issued_on : ℕ → Call → Issued
 issued_on context c = record { context = context; call = c }
 
 -- what is planned of a call with this verdict
-abbrev planned_with : ℕ → State → Issued → Option Refusal → Planned
-planned_with at s i why = record { verdict = why; last_use = use_unless s i.call why; bound = bound_unless s i why; words = words_unless at i why }
+abbrev planned_with : (n at : ℕ) → State → Issued → Option Refusal → Planned
+planned_with n at s i why = record { verdict = why; last_use = use_unless s i.call why; bound = bound_unless s i why; words = words_unless at i why; shader = shader_unless n i why }
 
 pub state_refused : (n : ℕ) (s : State) (i : Issued) (why : Refusal) → Some why ≡ verdict_in s i → s ≡ unless_refused n s i (verdict_in s i)
 state_refused n s i why e = ap (unless_refused n s i) e
 
-pub planned_refused : (at : ℕ) (s : State) (i : Issued) (why : Refusal) → Some why ≡ verdict_in s i → record { verdict = Some why; last_use = None; bound = []; words = None } ≡ planned_by at s (Some i)
-planned_refused at s i why e = ap (planned_with at s i) e
+pub planned_refused : (n at : ℕ) (s : State) (i : Issued) (why : Refusal) → Some why ≡ verdict_in s i
+    → record { verdict = Some why; last_use = None; bound = []; words = None; shader = None } ≡ planned_by n at s (Some i)
+planned_refused n at s i why e = ap (planned_with n at s i) e
 
 pub state_accepted : (n : ℕ) (s : State) (context : ℕ) (c : Call) → None ≡ verdict_in s (issued_on context c) → context ≡ 0
     → accepted n s 0 c ≡ unless_refused n s (issued_on context c) (verdict_in s (issued_on context c))
 state_accepted n s context c e zero = ap (λ x. accepted n s x c) (sym zero) ∙ ap (unless_refused n s (issued_on context c)) e
 
-pub planned_accepted : (at : ℕ) (s : State) (context : ℕ) (c : Call) → None ≡ verdict_in s (issued_on context c) → context ≡ 0
-    → record { verdict = None; last_use = use_in s c; bound = bound_of s.objects c; words = span_in at (token_words c) } ≡ planned_by at s (Some (issued_on context c))
-planned_accepted at s context c e zero =
-    ap (λ x. planned_with at s (issued_on x c) None) (sym zero) ∙ ap (planned_with at s (issued_on context c)) e
+pub planned_accepted : (n at : ℕ) (s : State) (context : ℕ) (c : Call) → None ≡ verdict_in s (issued_on context c) → context ≡ 0
+    → record { verdict = None; last_use = use_in s c; bound = bound_of s.objects c; words = span_in at (token_words c); shader = shader_made n c } ≡ planned_by n at s (Some (issued_on context c))
+planned_accepted n at s context c e zero =
+    ap (λ x. planned_with n at s (issued_on x c) None) (sym zero) ∙ ap (planned_with n at s (issued_on context c)) e
 
 -- the planner's state after an accepted call
 pub stands_after : (n : ℕ) (s : State) (c : Call) (old new : code.Objects) (before after : Uses) → Stands s old before

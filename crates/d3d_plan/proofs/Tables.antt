@@ -40,13 +40,13 @@ single P x p (suc k) d below = absurd (omega (arith, below))
 
 -- a plan with one more call, whose ranges stand behind the others
 pub shows_more : (entries : List Entry) (ranges more : List ResRange) (plan : List Planned) (e : Entry) (p : Planned) → Shows entries ranges plan
-    → e.start ≡ length ranges → e.end ≡ length (ranges ++ more) → p ≡ record { verdict = e.verdict; last_use = e.last_use; bound = more; words = option_map span_of e.words }
+    → e.start ≡ length ranges → e.end ≡ length (ranges ++ more) → p ≡ record { verdict = e.verdict; last_use = e.last_use; bound = more; words = option_map span_of e.words; shader = e.shader }
     → Shows (entries ++ e ∷ []) (ranges ++ more) (plan ++ p ∷ [])
 shows_more entries ranges more plan e p shows starts ends is = record {
   same =
       map-append (shown_entry (ranges ++ more)) entries (e ∷ [])
       ∙ ap (λ (ps : List Planned). ps ++ shown_entry (ranges ++ more) e ∷ []) (kept_shown ranges more entries shows.within ∙ shows.same)
-      ∙ ap (λ (q : Planned). plan ++ q ∷ []) (ap (λ (rs : List ResRange). record { verdict = e.verdict; last_use = e.last_use; bound = rs; words = option_map span_of e.words }) (own_ranges ranges more e starts ends) ∙ sym is);
+      ∙ ap (λ (q : Planned). plan ++ q ∷ []) (ap (λ (rs : List ResRange). record { verdict = e.verdict; last_use = e.last_use; bound = rs; words = option_map span_of e.words; shader = e.shader }) (own_ranges ranges more e starts ends) ∙ sym is);
   within = All-append (IsWithin (ranges ++ more)) entries (e ∷ [])
       (All-weaker (IsWithin ranges) (IsWithin (ranges ++ more)) (λ x w. record { ordered = w.ordered; ends = omega (arith, w.ends, length-append ranges more) }) entries shows.within)
       (single (IsWithin (ranges ++ more)) e (record { ordered = omega (arith, starts, ends, length-append ranges more); ends = omega (arith, ends) }));

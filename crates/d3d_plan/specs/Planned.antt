@@ -7,15 +7,17 @@ use Rattle.call_log.specs.Call.{Issued}
 use Rattle.call_log.specs.Put.{body_length}
 use Rattle.d3d_model.specs.InOrder.{State, verdict_in, before_call, call_at}
 use Rattle.d3d_model.specs.Uses.{bound_by, use_by}
-use Rattle.d3d_checks.specs.Created.{token_words}
+use Rattle.d3d_model.specs.D3dState.{Shader}
+use Rattle.d3d_checks.specs.Created.{shader_made, token_words}
 
--- why a call is refused, if it is; the call that it waits for; the ranges that it binds; and where the token words of the
--- shader that it creates stand in the input
+-- why a call is refused, if it is; the call that it waits for; the ranges that it binds; where the token words of the shader
+-- that it creates stand in the input; and that shader
 pub record Planned : Type 0 where
   pub verdict : Option Refusal
   pub last_use : Option ℕ
   pub bound : List ResRange
   pub words : Option Span
+  pub shader : Option Shader
 
 abbrev pub verdict_by : State → Option Issued → Option Refusal
 verdict_by s None = None
@@ -49,15 +51,25 @@ abbrev pub words_by : ℕ → State → Option Issued → Option Span
 words_by at s None = None
 words_by at s (Some i) = words_unless at i (verdict_in s i)
 
+-- ---- which shader is created
+
+abbrev pub shader_unless : ℕ → Issued → Option Refusal → Option Shader
+shader_unless n i (Some why) = None
+shader_unless n i None = shader_made n i.call
+
+abbrev pub shader_by : ℕ → State → Option Issued → Option Shader
+shader_by n s None = None
+shader_by n s (Some i) = shader_unless n i (verdict_in s i)
+
 -- ---- all that is planned
 
--- what is planned of a call whose record begins here
-abbrev pub planned_by : ℕ → State → Option Issued → Planned
-planned_by at s i = record { verdict = verdict_by s i; last_use = use_by s i; bound = bound_by s i; words = words_by at s i }
+-- what is planned of call n, whose record begins here
+abbrev pub planned_by : (n at : ℕ) → State → Option Issued → Planned
+planned_by n at s i = record { verdict = verdict_by s i; last_use = use_by s i; bound = bound_by s i; words = words_by at s i; shader = shader_by n s i }
 
 -- what is planned of call n, from 1
 abbrev pub planned : List Issued → ℕ → Planned
-planned log n = planned_by (place_of log n) (before_call log n) (call_at log n)
+planned log n = planned_by n (place_of log n) (before_call log n) (call_at log n)
 
 -- what is planned of the first n calls
 unfoldable pub plan_of : List Issued → ℕ → List Planned

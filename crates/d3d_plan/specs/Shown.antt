@@ -12,7 +12,7 @@ abbrev pub span_of : Words → Span
 span_of w = record { start = w.start; len = w.len }
 
 abbrev pub shown_entry : List ResRange → Entry → Planned
-shown_entry ranges e = record { verdict = e.verdict; last_use = e.last_use; bound = take (e.end - e.start) (drop e.start ranges); words = option_map span_of e.words }
+shown_entry ranges e = record { verdict = e.verdict; last_use = e.last_use; bound = take (e.end - e.start) (drop e.start ranges); words = option_map span_of e.words; shader = e.shader }
 
 -- an entry's ranges are some of all
 pub record IsWithin (ranges : List ResRange) (e : Entry) : Type 0 where

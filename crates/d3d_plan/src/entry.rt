@@ -1,3 +1,4 @@
+use d3d_state::LiveShader;
 use dx_types::{CallNo, Refusal};
 
 /// Where the token words of a shader stand in the input, in bytes.
@@ -7,12 +8,14 @@ pub(crate) struct Words {
     pub(crate) len: u32,
 }
 
-/// What is planned of a call. Its ranges are those of the plan from `start` to just before `end`.
-#[derive(Clone, Copy, Debug, PartialEq, Eq)]
+/// What is planned of a call. `shader` is the shader that it creates, if it creates one. Its ranges are those of the plan from
+/// `start` to just before `end`.
+#[derive(Drop)]
 pub(crate) struct Entry {
     pub(crate) verdict: Option<Refusal>,
     pub(crate) last_use: Option<CallNo>,
     pub(crate) words: Option<Words>,
+    pub(crate) shader: Option<LiveShader>,
     pub(crate) start: u32,
     pub(crate) end: u32,
 }

@@ -2,10 +2,11 @@ ghost use Rattle.std.specs.Prelude.{◌&&◌, nat_le, ◌≡◌, ◌-◌, ◌≤
 ghost use Rattle.std.specs.List.{All};
 ghost use Rattle.d3d_plan.specs.Planned.{Planned};
 ghost use Rattle.d3d_plan.specs.Shown.{IsWithin, shown, span_of};
-ghost use Rattle.std.specs.Option.{option_map};
+ghost use Rattle.std.specs.Option.{option_copied, option_map};
 ghost use Rattle.d3d_plan.specs.Verdicts.{refusal_of};
 
 use crate::entry::{Entry, Words};
+use d3d_state::LiveShader;
 use dx_types::{CallNo, Refusal, ResRange, Span};
 use std::marker::Model;
 
@@ -26,7 +27,7 @@ fn span_of(words: Words) -> Span
 }
 
 /// The plan of a log. A clause sees what is planned of each call, in order.
-#[derive(Debug, Drop)]
+#[derive(Drop)]
 pub struct Plan {
     entries: Vec<Entry>,
     ranges: Vec<ResRange>,
@@ -88,7 +89,7 @@ impl Plan {
         requires last { n ≤ length self.now }
         ensures { Some result.now ≡ option_map (λ (p : Planned). p.bound) (slice_get self.now (n - 1)) }
     {
-        let entry = self.entries[(n - 1) as usize];
+        let entry = &self.entries[(n - 1) as usize];
         &self.ranges[entry.start as usize..entry.end as usize]
     }
 
@@ -109,5 +110,14 @@ impl Plan {
         ensures { Some result ≡ option_map (λ (p : Planned). p.words) (slice_get self.now (n - 1)) }
     {
         self.entries[(n - 1) as usize].words.map(span_of)
+    }
+
+    /// The shader that call n creates; None for other calls, and where it is refused.
+    pub fn shader(&self, n: CallNo) -> Option<&LiveShader>
+        requires first { 1 ≤ n }
+        requires last { n ≤ length self.now }
+        ensures { Some (option_copied result) ≡ option_map (λ (p : Planned). p.shader) (slice_get self.now (n - 1)) }
+    {
+        self.entries[(n - 1) as usize].shader.as_ref()
     }
 }

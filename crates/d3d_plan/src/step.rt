@@ -2,7 +2,7 @@ ghost use Rattle.std.specs.Prelude.{◌≡◌, ◌++◌, ◌∷◌, ◌<◌, ◌
 ghost use Rattle.std.specs.Option.{option_map};
 ghost use Rattle.call_log.specs.View.{call_view};
 ghost use Rattle.d3d_checks.specs.Accepted.{Accepted, Tells, is_draw, is_unbuilt};
-ghost use Rattle.d3d_checks.specs.Bound.{bound_of};
+ghost use Rattle.d3d_effects.specs.Bound.{bound_of};
 ghost use Rattle.d3d_checks.specs.Created.{shader_made, token_words};
 ghost use Rattle.d3d_model.specs.InOrder.{State, accepted, initial, unless_refused, verdict_in};
 ghost use Rattle.d3d_model.specs.Uses.{use_in};
@@ -13,8 +13,9 @@ ghost use Rattle.d3d_state.specs.Meaning.{objects_of};
 
 use crate::entry::{Entry, Words};
 use call_log::Call;
-use d3d_checks::{apply, decode_created, keep_call, push_bound, verdict};
-use d3d_state::{LiveShader, Objects};
+use d3d_checks::{decode_created, verdict};
+use d3d_effects::{apply, keep_call, push_bound};
+use d3d_state::{LiveShader, Objects, share};
 use d3d_uses::Uses;
 use dx_types::{CallNo, Refusal, ResRange};
 use std::alloc::{AllocError, Global};
@@ -64,7 +65,7 @@ impl Planner {
         ensures shows { OnOk result ((s : State) (plan : List Planned) → Stands s self.old.objects self.old.uses
             → Shows self.old.entries.items self.old.ranges.items plan
             → Shows self.new.entries.items self.new.ranges.items
-            (plan ++ planned_by at s (Some (record { context = context; call = call_view call.now })) ∷ [])) }
+            (plan ++ planned_by n at s (Some (record { context = context; call = call_view call.now })) ∷ [])) }
     {
         let shader = decode_created(alloc, n, call)?;
         match verdict(&self.objects, &self.uses, context, call, shader.is_some()) {
@@ -79,10 +80,10 @@ impl Planner {
         ensures uses { self.new.uses ≡ self.old.uses }
         ensures shows { OnOk result ((plan : List Planned) → Shows self.old.entries.items self.old.ranges.items plan
             → Shows self.new.entries.items self.new.ranges.items
-            (plan ++ record { verdict = Some why; last_use = None; bound = []; words = None } ∷ [])) }
+            (plan ++ record { verdict = Some why; last_use = None; bound = []; words = None; shader = None } ∷ [])) }
     {
         let end = self.ranges.len();
-        push_entry(&mut self.entries, Some(why), None, None, end, end)
+        push_entry(&mut self.entries, Some(why), None, None, None, end, end)
     }
 
     /// Plans call n of the log, which is accepted on the immediate context, with the shader that it creates, if it creates
@@ -107,6 +108,7 @@ impl Planner {
               last_use = use_in s (call_view call.now);
               bound = bound_of s.objects (call_view call.now);
               words = span_in at (token_words (call_view call.now));
+              shader = shader_made n (call_view call.now);
             } ∷ [])) }
     {
         let start = self.ranges.len();
@@ -114,9 +116,10 @@ impl Planner {
         let words = words_of(at, call)?;
         push_bound(&mut self.ranges, &self.objects, call)?;
         keep_call(&mut self.uses, n, call, &self.ranges[start..])?;
+        let shared = share(shader.as_ref())?;
         apply(&mut self.objects, n, call, shader)?;
         let end = self.ranges.len();
-        push_entry(&mut self.entries, None, last, words, start, end)
+        push_entry(&mut self.entries, None, last, words, shared, start, end)
     }
 }
 
@@ -156,11 +159,12 @@ fn push_entry(
     verdict: Option<Refusal>,
     last_use: Option<CallNo>,
     words: Option<Words>,
+    shader: Option<LiveShader>,
     start: usize,
     end: usize,
 ) -> Result<(), AllocError>
     ensures { OnOk result (entries.new.items ≡ entries.old.items
-        ++ record { verdict = verdict; last_use = last_use; words = words; start = start; end = end } ∷ []) }
+        ++ record { verdict = verdict; last_use = last_use; words = words; shader = shader; start = start; end = end } ∷ []) }
 {
     let (Ok(start), Ok(end)) = (u32::try_from(start), u32::try_from(end)) else {
         return Err(AllocError);
@@ -169,6 +173,7 @@ fn push_entry(
         verdict,
         last_use,
         words,
+        shader,
         start,
         end,
     })?;

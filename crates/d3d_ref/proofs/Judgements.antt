@@ -7,14 +7,14 @@ use Rattle.dx_types.specs.declared.refusal.Refusal.{Refusal}
 use Rattle.dx_types.specs.declared.reply.Reply.{Reply}
 use Rattle.call_log.specs.Call.{Issued}
 use Rattle.call_log.specs.Grammar.{Frame, frame_no, issued, calls_of}
-use Rattle.d3d_model.specs.D3dState.{Objects, Memory}
+use Rattle.d3d_model.specs.D3dState.{Objects, Memory, Shader}
 use Rattle.d3d_model.specs.InOrder.{after_calls, before_call, call_at}
 use Rattle.d3d_model.specs.ReplyText.{replies_upto}
 use Rattle.d3d_checks.specs.Accepted.{is_unbuilt, is_draw}
-use Rattle.d3d_plan.specs.Planned.{Planned, plan_of, verdict_by}
+use Rattle.d3d_plan.specs.Planned.{Planned, plan_of, shader_by, shader_unless, verdict_by}
 use Rattle.d3d_plan.proofs.Entries.{entry_of}
 use Rattle.d3d_plan.specs.Ends.{IsPlayable}
-use Rattle.d3d_ref.specs.Stands.{Stands, Judged}
+use Rattle.d3d_ref.specs.Stands.{Stands, Judged, IsCreated}
 
 some_back : {X : Type 0} (x y : X) → Some x ≡ Some y → x ≡ y
 some_back x y e = cc
@@ -46,6 +46,21 @@ judged frames plan i refusal same h playable said =
       no_draw = λ c there. let f = framed frames i c there in ap (λ (d : Issued). is_draw d.call) (sym f.same) ∙ playable.0 (suc i) f.frame f.found;
       verdict = λ c there. is ∙ ap (verdict_by (after_calls log i)) there;
     })
+
+abbrev pub shader_of : Planned → Option Shader
+shader_of p = p.shader
+
+-- the shader that is planned of call i + 1 is the one that it creates
+pub created : (frames : List Frame) (plan : List Planned) (i : ℕ) (refusal : Option Refusal) (shader : Option Shader) → plan ≡ plan_of (calls_of frames) (length frames) → i < length frames
+    → Judged (calls_of frames) (i + 1) refusal → Some shader ≡ option_map shader_of (slice_get plan (i + 1 - 1)) → IsCreated (calls_of frames) (i + 1) refusal shader
+created frames plan i refusal shader same h j said =
+    let log = calls_of frames in
+    let place : i + 1 - 1 ≡ i = omega arith in
+    let is : shader ≡ shader_by (suc i) (after_calls log i) (slice_get log i) =
+    some_back shader _ (said ∙ ap (λ (k : ℕ). option_map shader_of (slice_get plan k)) place ∙ ap (λ (p : List Planned). option_map shader_of (slice_get p i)) same ∙ ap (option_map shader_of) (entry_of log (length frames) i h)) in
+    let own : Judged log (suc i) refusal = subst (λ (n : ℕ). Judged log n refusal) (add-one i) j in
+    subst (λ (n : ℕ). IsCreated log n refusal shader) (sym (add-one i))
+    (λ c there none. is ∙ ap (shader_by (suc i) (after_calls log i)) there ∙ ap (shader_unless (suc i) c) (sym (own.verdict c there) ∙ none))
 
 -- ---- the loop over the calls
 

@@ -1,7 +1,9 @@
 ghost use Rattle.std.specs.Prelude.{◌≡◌, IfOk, OnOk};
 ghost use Rattle.call_log.specs.Grammar.{calls_of};
 ghost use Rattle.call_log.specs.View.{call_view};
+ghost use Rattle.std.specs.Option.{option_copied};
 ghost use Rattle.d3d_checks.specs.Accepted.{Accepted};
+ghost use Rattle.d3d_checks.specs.Created.{shader_made};
 ghost use Rattle.d3d_memory.specs.Limits.{InLimits};
 ghost use Rattle.d3d_memory.specs.Meeting.{met_by};
 ghost use Rattle.d3d_model.specs.Effect.{objects_after};
@@ -9,13 +11,13 @@ ghost use Rattle.d3d_model.specs.InOrder.{after_calls, before_call, initial};
 ghost use Rattle.d3d_model.specs.Memory.{memory_after};
 ghost use Rattle.d3d_model.specs.Past.{Past};
 ghost use Rattle.d3d_model.specs.ReplyText.{answer, none_pending, reply_at};
-ghost use Rattle.d3d_ref.specs.Stands.{Judged, Stands};
+ghost use Rattle.d3d_ref.specs.Stands.{IsCreated, Judged, Stands};
 ghost use Rattle.d3d_state.specs.Meaning.{objects_of};
 
 use call_log::{Call, Log};
-use d3d_checks::{apply, decode_created};
+use d3d_effects::apply;
 use d3d_memory::{Memory, accept, answer};
-use d3d_state::Objects;
+use d3d_state::{LiveShader, Objects, share};
 use dx_types::{CallNo, Refusal, Reply};
 use std::alloc::{AllocError, Global};
 
@@ -37,16 +39,19 @@ impl Machine {
         }
     }
 
-    /// Plays call n of a log, which is refused for this reason, or accepted. The answer is what a run says of it.
+    /// Plays call n of a log, which is refused for this reason, or accepted. `shader` is the shader that it creates, if it
+    /// creates one. The answer is what a run says of it.
     pub fn play(
         &mut self,
         alloc: Global,
         log: &Log<'_>,
         n: CallNo,
         refusal: Option<Refusal>,
+        shader: Option<&LiveShader>,
     ) -> Result<Option<Reply>, AllocError>
         requires stands { Stands (objects_of self.old.objects) self.old.memory (before_call (calls_of log.now.frames) n) }
         requires judged { Judged (calls_of log.now.frames) n refusal }
+        requires shader { IsCreated (calls_of log.now.frames) n refusal (option_copied shader) }
         ensures reply { IfOk result (λ reply. reply ≡ reply_at (calls_of log.now.frames) none_pending n) }
         ensures stands { OnOk result (Stands (objects_of self.new.objects) self.new.memory (after_calls (calls_of log.now.frames) n)) }
     {
@@ -57,7 +62,7 @@ impl Machine {
                 None => {
                     // What a log keeps within limits is learnt with its count.
                     let _count = log.count();
-                    let reply = self.execute(alloc, n, &item.call())?;
+                    let reply = self.execute(alloc, n, &item.call(), shader)?;
                     Ok(reply)
                 }
             },
@@ -70,17 +75,19 @@ impl Machine {
         alloc: Global,
         n: CallNo,
         call: &Call<'_>,
+        shader: Option<&LiveShader>,
     ) -> Result<Option<Reply>, AllocError>
         requires accepted { Accepted (objects_of self.old.objects) (call_view call.now) }
         requires limits { InLimits self.old.memory }
+        requires shader { option_copied shader ≡ shader_made n (call_view call.now) }
         ensures reply { (past : Past) → IfOk result (λ reply. reply ≡ answer n (met_by (objects_of self.old.objects) self.old.memory past) (call_view call.now)) }
         ensures objects { OnOk result (objects_of self.new.objects ≡ objects_after n (objects_of self.old.objects) 0 (call_view call.now)) }
         ensures memory { OnOk result (self.new.memory ≡ memory_after n (objects_of self.old.objects) self.old.memory 0 (call_view call.now)) }
     {
         let reply = answer(alloc, n, &self.memory, &self.objects, call)?;
         accept(&mut self.memory, &self.objects, 0, call)?;
-        let shader = decode_created(alloc, n, call)?;
-        apply(&mut self.objects, n, call, shader)?;
+        let created = share(shader)?;
+        apply(&mut self.objects, n, call, created)?;
         Ok(reply)
     }
 }

@@ -55,7 +55,8 @@ fn play_all(alloc: Global, log: &Log<'_>, plan: &Plan) -> Result<Vec<Reply>, All
     let mut machine = Machine::new(alloc);
     let mut said = Vec::new(alloc);
     'calls: for i in 0..log.count() {
-        let reply = machine.play(alloc, log, i + 1, refusal(plan.verdict(i + 1)))?;
+        let n = i + 1;
+        let reply = machine.play(alloc, log, n, refusal(plan.verdict(n)), plan.shader(n))?;
         say(&mut said, reply)?;
     }
     said.push(Reply::Finished { calls: log.count() })?;

@@ -9,8 +9,8 @@ use Rattle.d3d_model.specs.IdMap.{get}
 use Rattle.d3d_model.specs.Resource.{Buffers, usage_from, usage_number, is_dynamic, class_of, live_bytes, live_dynamic}
 use Rattle.d3d_model.proofs.Checked.{all_passed, free_id}
 use Rattle.d3d_model.specs.D3dState.{Objects}
-use Rattle.d3d_model.specs.Verdict.{buffer_checks, has_bytes, bad_stride}
-use Rattle.d3d_resources.specs.Creation.{shape_checks, table_checks, creation_checks, shape_of, is_wrong_usage, is_wrong_data}
+use Rattle.d3d_model.specs.Verdict.{buffer_checks, has_bytes, bad_stride, is_wrong_usage, is_wrong_data}
+use Rattle.d3d_resources.specs.Creation.{shape_checks, table_checks, creation_checks, shape_of}
 
 -- the tests of sizes and of bits, one by one and together
 abbrev one_by_one : (len data_len constant stride bits alone staging dynamic immutable both lacks : Bool) → List Check → List Check

@@ -1,36 +1,24 @@
 -- Why a buffer is not created: the checks on its id, its shape and what is live beside it.
-use Rattle.std.specs.Prelude.{ℕ, ◌+◌, ◌%◌, ◌==◌, nat_le, nat_lt, Bool, not, ◌&&◌, ◌||◌, List, [], ◌∷◌, length, is_some, if◌then◌else◌}
+use Rattle.std.specs.Prelude.{ℕ, ◌+◌, ◌==◌, nat_le, nat_lt, Bool, not, ◌&&◌, ◌||◌, List, [], ◌∷◌, is_some}
 use Rattle.dx_types.specs.declared.refusal.Refusal.TheVariants.{IdInUse, BadUsage, BadBind, BadSize, OutOfRange, TooMuchMemory, TooManyDynamic}
 use Rattle.dx_types.specs.declared.shape.Shape.{Shape}
-use Rattle.dx_types.specs.declared.limits.TheConstants.{CONSTANT_BUFFER, KNOWN_BITS, MAX_BUFFER_SIZE, MAX_CONSTANT_SIZE, MAX_DYNAMIC_OF_CLASS, MAX_DYNAMIC_SIZE, MAX_LIVE_BYTES, RAW_VIEWS, SHADER_RESOURCE, STRUCTURED, UNORDERED_ACCESS}
+use Rattle.dx_types.specs.declared.limits.TheConstants.{KNOWN_BITS, MAX_DYNAMIC_OF_CLASS, MAX_LIVE_BYTES, UNORDERED_ACCESS}
 use Rattle.d3d_model.specs.Check.{Check, has, is_id}
 use Rattle.d3d_model.specs.IdMap as ids
 use Rattle.d3d_model.specs.Resource.{Buffers, usage_from, is_immutable, is_dynamic, is_staging, class_of, live_bytes, live_dynamic}
-use Rattle.d3d_model.specs.Verdict.{has_bytes, bad_stride}
-
--- no whole number of words, or more than a buffer of this usage may have
-abbrev pub is_wrong_length : Shape → Bool
-is_wrong_length s = (s.size == 0) || not (s.size % 4 == 0) || nat_lt MAX_BUFFER_SIZE s.size || (is_dynamic s.usage && nat_lt MAX_DYNAMIC_SIZE s.size)
-
--- a constant buffer holds whole registers of 16 bytes, at most 4,096 of them
-abbrev pub is_wrong_constant : Shape → Bool
-is_wrong_constant s = has s.bind CONSTANT_BUFFER && (not (s.size % 16 == 0) || nat_lt MAX_CONSTANT_SIZE s.size)
-
--- a structured buffer holds whole structures, and no other buffer has a stride
-abbrev pub is_wrong_stride : Shape → Bool
-is_wrong_stride s = if has s.misc STRUCTURED then bad_stride s.size s.stride else not (s.stride == 0)
+use Rattle.d3d_model.specs.Verdict.{is_wrong_usage, is_wrong_data, is_wrong_length, is_wrong_constant, is_wrong_stride, is_wrong_beside, has_both_forms, lacks_views}
 
 abbrev pub has_bad_size : Shape → Bool
-has_bad_size s = is_wrong_length s || is_wrong_constant s || is_wrong_stride s
+has_bad_size s =
+    is_wrong_length s.size (is_dynamic s.usage) || is_wrong_constant s.bind s.size || is_wrong_stride s.misc s.size s.stride
 
--- bits that are unknown, or that don't go together: a constant buffer is nothing else, raw and structured views exclude
--- each other, and a buffer for either is bound for reads or writes
+-- bits that are unknown, or that don't go together
 abbrev pub has_bad_bits : Shape → Bool
 has_bad_bits s =
     nat_lt KNOWN_BITS s.bind || nat_lt KNOWN_BITS s.misc
-    || (has s.bind CONSTANT_BUFFER && not (s.bind == CONSTANT_BUFFER))
-    || (has s.misc RAW_VIEWS && has s.misc STRUCTURED)
-    || ((has s.misc RAW_VIEWS || has s.misc STRUCTURED) && not (has s.bind SHADER_RESOURCE || has s.bind UNORDERED_ACCESS))
+    || is_wrong_beside s.bind
+    || has_both_forms s.misc
+    || lacks_views s.bind s.misc
 
 -- the usage excludes these bind bits: nothing is bound to a staging buffer, a dynamic one is bound for reads alone, and an
 -- immutable one is never written
@@ -58,14 +46,6 @@ table_checks buffers id s = (not (is_id id), OutOfRange) ∷ (is_some (ids.get b
 -- the shape that a creation describes
 abbrev pub shape_of : ℕ → ℕ → ℕ → ℕ → ℕ → Shape
 shape_of size usage bind misc stride = record { size = size; usage = usage_from usage; bind = bind; misc = misc; stride = stride }
-
--- an unknown usage, or an immutable buffer without bytes
-abbrev pub is_wrong_usage : ℕ → List ℕ → Bool
-is_wrong_usage usage bytes = nat_lt 3 usage || ((usage == 1) && not (has_bytes bytes))
-
--- data of another length than the buffer's
-abbrev pub is_wrong_data : ℕ → List ℕ → Bool
-is_wrong_data size bytes = has_bytes bytes && not (length bytes == size)
 
 -- the checks of a creation: those that need its usage's number or its data stand before those of the table
 abbrev pub creation_checks : Buffers → ℕ → ℕ → ℕ → ℕ → ℕ → ℕ → List ℕ → List Check

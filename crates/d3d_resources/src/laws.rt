@@ -1,8 +1,8 @@
 ghost use Rattle.std.specs.Prelude.{◌≡◌, ℕ, List, false};
 ghost use Rattle.d3d_model.specs.Check.{first_failed};
 ghost use Rattle.d3d_model.specs.D3dState.{Objects};
-ghost use Rattle.d3d_model.specs.Verdict.{buffer_checks};
-ghost use Rattle.d3d_resources.specs.Creation.{table_checks, creation_checks, shape_of, is_wrong_usage, is_wrong_data};
+ghost use Rattle.d3d_model.specs.Verdict.{buffer_checks, is_wrong_data, is_wrong_usage};
+ghost use Rattle.d3d_resources.specs.Creation.{table_checks, creation_checks, shape_of};
 
 /// The table's checks are those of a creation by a call, but for the two that need the usage's number or the data: where
 /// both pass, the table decides alone; else they stand behind the checks of the id.

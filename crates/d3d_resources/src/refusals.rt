@@ -1,7 +1,8 @@
 ghost use Rattle.std.specs.Prelude.{◌≡◌, ◌&&◌, ◌||◌};
 ghost use Rattle.d3d_model.specs.Check.{has, is_id};
-ghost use Rattle.d3d_model.specs.Verdict.{bad_stride};
-ghost use Rattle.d3d_resources.specs.Creation.{is_wrong_length, is_wrong_constant, is_wrong_stride, has_bad_size, has_bad_bits, has_bad_usage};
+ghost use Rattle.d3d_model.specs.Resource.{is_dynamic};
+ghost use Rattle.d3d_model.specs.Verdict.{bad_stride, is_wrong_constant, is_wrong_length, is_wrong_stride};
+ghost use Rattle.d3d_resources.specs.Creation.{has_bad_size, has_bad_bits, has_bad_usage};
 
 use crate::classes::is_dynamic;
 use dx_types::limits::{
@@ -25,7 +26,7 @@ pub fn is_id(id: u32) -> bool
 }
 
 fn is_wrong_length(shape: &Shape) -> bool
-    ensures { result ≡ is_wrong_length shape.now }
+    ensures { result ≡ is_wrong_length shape.now.size (is_dynamic shape.now.usage) }
 {
     let size = shape.size;
     size == 0
@@ -35,7 +36,7 @@ fn is_wrong_length(shape: &Shape) -> bool
 }
 
 fn is_wrong_constant(shape: &Shape) -> bool
-    ensures { result ≡ is_wrong_constant shape.now }
+    ensures { result ≡ is_wrong_constant shape.now.bind shape.now.size }
 {
     has_bit(shape.bind, CONSTANT_BUFFER) && (shape.size % 16 != 0 || shape.size > MAX_CONSTANT_SIZE)
 }
@@ -48,7 +49,7 @@ fn is_bad_stride(size: u64, stride: u32) -> bool
 }
 
 fn is_wrong_stride(shape: &Shape) -> bool
-    ensures { result ≡ is_wrong_stride shape.now }
+    ensures { result ≡ is_wrong_stride shape.now.misc shape.now.size shape.now.stride }
 {
     if has_bit(shape.misc, STRUCTURED) {
         is_bad_stride(shape.size, shape.stride)

@@ -9,8 +9,6 @@ use Rattle.d3d_model.specs.D3dState as model
 use Rattle.d3d_model.specs.Shader.{decodes, declared_by, declared_if, group_if, group_of, ran_dispatch, ran_if}
 use Rattle.d3d_state.specs.Shaders.{program_by, shader_from}
 use Rattle.shader_model.specs.Invocation.{Slots}
-use Rattle.d3d_model.specs.Shader.{Ran}
-use Rattle.shader_model.specs.declared.tree.Declared.{Declared}
 
 -- no bytes spell nothing
 pub none_spelled : program_by [] ≡ None

@@ -11,5 +11,5 @@ mod views;
 pub use objects::Objects;
 pub use queries::Queries;
 pub use query::{Query, Sort};
-pub use shaders::{LiveShader, Shaders};
+pub use shaders::{LiveShader, Shaders, share};
 pub use views::Views;

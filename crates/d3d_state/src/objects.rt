@@ -1,3 +1,4 @@
+ghost use Rattle.d3d_model.specs.declared.codes.TheConstants.{BUFFER_CLASS, VIEW_CLASS, SHADER_CLASS, QUERY_CLASS};
 ghost use Rattle.dx_types.specs.declared.limits.TheConstants.{CONSTANT_SLOTS, SRV_SLOTS, UAV_SLOTS};
 
 use crate::{LiveShader, Queries, Query, Shaders, Views};
@@ -117,7 +118,7 @@ impl Objects {
     /// Whether a buffer may not be destroyed: it is set, it has a live view, or a command list names it.
     pub fn uses_buffer(&self, id: u32) -> bool
         ensures { let o = objects_of self.now in
-            result ≡ (is_set o (λ b. holds_buffer b id) || is_listed o 1 id || has_view o id) }
+            result ≡ (is_set o (λ b. holds_buffer b id) || is_listed o BUFFER_CLASS id || has_view o id) }
     {
         self.bindings.holds(id) || self.views.has_of(id)
     }
@@ -125,7 +126,7 @@ impl Objects {
     /// Whether a view may not be destroyed: it is set, or a command list names it.
     pub fn uses_view(&self, id: u32) -> bool
         ensures { let o = objects_of self.now in
-            result ≡ (is_set o (λ b. holds_view b id) || is_listed o 2 id) }
+            result ≡ (is_set o (λ b. holds_view b id) || is_listed o VIEW_CLASS id) }
     {
         self.bindings.holds_view(id)
     }
@@ -134,7 +135,7 @@ impl Objects {
     /// which is the id 0.
     pub fn uses_shader(&self, id: u32) -> bool
         ensures { let o = objects_of self.now in
-            result ≡ (is_set o (λ b. holds_shader b id) || is_listed o 3 id) }
+            result ≡ (is_set o (λ b. holds_shader b id) || is_listed o SHADER_CLASS id) }
     {
         id == 0 || self.bindings.holds_shader(id)
     }
@@ -142,7 +143,7 @@ impl Objects {
     /// Whether a query may not be destroyed: it is the predicate's, it is begun, or a command list names it.
     pub fn uses_query(&self, id: u32) -> bool
         ensures { let o = objects_of self.now in
-            result ≡ (is_set o (λ b. holds_query b id) || is_listed o 4 id || query_is o id (λ q. q.begun)) }
+            result ≡ (is_set o (λ b. holds_query b id) || is_listed o QUERY_CLASS id || query_is o id (λ q. q.begun)) }
     {
         self.bindings.holds_query(id) || self.is_begun(id)
     }
@@ -214,28 +215,28 @@ impl Objects {
 
     /// A buffer is live no more.
     pub fn destroy_buffer(&mut self, id: u32)
-        ensures { objects_of self.new ≡ destroyed (objects_of self.old) 1 id }
+        ensures { objects_of self.new ≡ destroyed (objects_of self.old) BUFFER_CLASS id }
     {
         let _ = self.buffers.remove(id);
     }
 
     /// A view is live no more.
     pub fn destroy_view(&mut self, id: u32)
-        ensures { objects_of self.new ≡ destroyed (objects_of self.old) 2 id }
+        ensures { objects_of self.new ≡ destroyed (objects_of self.old) VIEW_CLASS id }
     {
         let _ = self.views.remove(id);
     }
 
     /// A shader is live no more.
     pub fn destroy_shader(&mut self, id: u32)
-        ensures { objects_of self.new ≡ destroyed (objects_of self.old) 3 id }
+        ensures { objects_of self.new ≡ destroyed (objects_of self.old) SHADER_CLASS id }
     {
         self.shaders.remove(id);
     }
 
     /// A query is live no more.
     pub fn destroy_query(&mut self, id: u32)
-        ensures { objects_of self.new ≡ destroyed (objects_of self.old) 4 id }
+        ensures { objects_of self.new ≡ destroyed (objects_of self.old) QUERY_CLASS id }
     {
         self.queries.remove(id);
     }

@@ -1,7 +1,9 @@
-ghost use Rattle.std.specs.Prelude.{◌≡◌, ◌==◌};
+ghost use Rattle.std.specs.Prelude.{◌≡◌, ◌==◌, nat_lt, is_none, IfSome};
+ghost use Rattle.d3d_model.specs.declared.codes.TheConstants.{EVENT_QUERY, PREDICATE_QUERY};
 ghost use Rattle.d3d_model.specs.Verdict.{has_result};
 ghost use Rattle.d3d_state.specs.Sorts.{new_query, sort_number};
 
+use d3d_model::codes;
 use dx_types::CallNo;
 use std::marker::Model;
 
@@ -12,6 +14,22 @@ pub enum Sort {
     Occlusion,
     PipelineStatistics,
     OcclusionPredicate,
+}
+
+impl Sort {
+    /// The sort of a number, if it has one.
+    pub fn from_number(number: u32) -> Option<Sort>
+        ensures known { IfSome result (λ sort. number ≡ sort_number sort) }
+        ensures unknown { is_none result ≡ nat_lt PREDICATE_QUERY number }
+    {
+        match number {
+            codes::EVENT_QUERY => Some(Sort::Event),
+            codes::OCCLUSION_QUERY => Some(Sort::Occlusion),
+            codes::STATISTICS_QUERY => Some(Sort::PipelineStatistics),
+            codes::PREDICATE_QUERY => Some(Sort::OcclusionPredicate),
+            _ => None,
+        }
+    }
 }
 
 /// A live query: whether it is begun on the immediate context, and the call that last ended it there.
@@ -55,14 +73,14 @@ impl Query {
 
     /// Whether it is an event, which is never begun.
     pub fn is_event(&self) -> bool
-        ensures { result ≡ (self.now.sort == 0) }
+        ensures { result ≡ (self.now.sort == EVENT_QUERY) }
     {
         matches!(self.sort, Sort::Event)
     }
 
     /// Whether predication may ask it.
     pub fn is_predicate(&self) -> bool
-        ensures { result ≡ (self.now.sort == 3) }
+        ensures { result ≡ (self.now.sort == PREDICATE_QUERY) }
     {
         matches!(self.sort, Sort::OcclusionPredicate)
     }

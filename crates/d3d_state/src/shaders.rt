@@ -10,17 +10,24 @@ use shader_tokens::{ShaderEnd, decode};
 use std::alloc::{AllocError, Global};
 use std::collections::BTreeMap;
 use std::marker::Model;
+use std::sync::Arc;
 
-/// A shader: the call that created it, its token bytes, and the tree that they spell. A clause sees the call and the bytes;
-/// they are kept because several of them may spell one tree.
+/// Token bytes, and the tree that they spell. The bytes are kept because several of them may spell one tree.
 #[derive(Drop)]
-pub struct LiveShader {
-    call: CallNo,
+struct Tokens {
     words: Vec<u8>,
     tree: Shader,
 }
 
+/// A shader: the call that created it, its token bytes, and the tree that they spell. A clause sees the call and the bytes.
+#[derive(Drop)]
+pub struct LiveShader {
+    call: CallNo,
+    tokens: Arc<Tokens, Global>,
+}
+
 impl Model for LiveShader {
+    ghost use Rattle.std.specs.Arc.{arc_value};
     ghost use Rattle.std.specs.Prelude.{◌≡◌, Some};
     ghost use Rattle.shader_model.specs.Shader.{program_of};
     ghost use Rattle.d3d_model.specs.D3dState as model;
@@ -30,9 +37,9 @@ impl Model for LiveShader {
 
     ghost coded = { shader_code };
 
-    ghost view = { λ s. record { call = s.call; words = s.words.items } };
+    ghost view = { λ s. record { call = s.call; words = (arc_value s.tokens).words.items } };
 
-    ghost invariant = { λ s. program_by s.words.items ≡ Some (program_of s.tree) };
+    ghost invariant = { λ s. program_by (arc_value s.tokens).words.items ≡ Some (program_of (arc_value s.tokens).tree) };
 }
 
 impl LiveShader {
@@ -47,11 +54,23 @@ impl LiveShader {
         match decode(alloc, words) {
             Ok(tree) => {
                 let words = words.to_vec(alloc)?;
-                Ok(Some(LiveShader { call, words, tree }))
+                let tokens = Arc::new(alloc, Tokens { words, tree })?;
+                Ok(Some(LiveShader { call, tokens }))
             }
             Err(ShaderEnd::Bad(_)) => Ok(None),
             Err(ShaderEnd::NoMemory) => Err(AllocError),
         }
+    }
+
+    /// The same shader once more, with the same tokens and the same tree.
+    pub fn share(&self) -> Result<LiveShader, AllocError>
+        ensures { IfOk result (λ shader. shader ≡ self.now) }
+    {
+        let tokens = Arc::try_clone(&self.tokens)?;
+        Ok(LiveShader {
+            call: self.call,
+            tokens,
+        })
     }
 
     /// The call that created it.
@@ -65,7 +84,20 @@ impl LiveShader {
     pub fn tree(&self) -> &Shader
         ensures { program_by self.now.words ≡ Some (program_of result.now) }
     {
-        &self.tree
+        &self.tokens.tree
+    }
+}
+
+/// The same shader once more, where there is one.
+pub fn share(shader: Option<&LiveShader>) -> Result<Option<LiveShader>, AllocError>
+    ensures { IfOk result (λ shared. shared ≡ option_copied shader.entry) }
+{
+    match shader {
+        Some(shader) => {
+            let shared = shader.share()?;
+            Ok(Some(shared))
+        }
+        None => Ok(None),
     }
 }
 

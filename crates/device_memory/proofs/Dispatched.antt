@@ -14,7 +14,7 @@ use Rattle.shader_model.specs.Dispatch.{is_allowed}
 use Rattle.shader_slots.specs.Part.{Part, spelled}
 use Rattle.shader_slots.specs.Part as part
 use Rattle.shader_slots.specs.Bound.{Around, Bound, unbound, words_bound, around_bound}
-use Rattle.spirv_words.specs.Meaning.ModuleDispatch.{group_of, module_dispatched}
+use Rattle.spirv_model.specs.Meaning.ModuleDispatch.{group_of, module_dispatched}
 use Rattle.vk_types.specs.declared.command.SlotName.{SlotName}
 use Rattle.vk_types.specs.declared.command.SlotName.TheVariants as slot
 use Rattle.vk_types.specs.declared.command.SlotRange.{SlotRange}

@@ -6,15 +6,15 @@ use Rattle.std.proofs.lemmas.Bool.{and_parts, cond-true, cond-false, leb-true, l
 use Rattle.shader_model.specs.declared.ids.Ids.{Ids}
 use Rattle.shader_model.specs.Invocation.{Slots, words_in}
 use Rattle.shader_model.specs.Dispatch.{invocations}
-use Rattle.spirv_words.specs.Op.{Op}
-use Rattle.spirv_words.specs.Op as op
-use Rattle.spirv_words.specs.StorageClass as class
-use Rattle.spirv_words.specs.Operands.{Verdict}
-use Rattle.spirv_words.specs.Meaning.Bindings.{words_at, is_writable, with_word}
-use Rattle.spirv_words.specs.Meaning.Values.{ToVariable, ToWord, Value, Word, Truth, At, of_one, of_two, selected, component, new_word, new_if_equal}
-use Rattle.spirv_words.specs.Meaning.Memory.{Memory, with_result, with_slot_word, with_existing, outer_variable, values_of, chained, loaded, stored, exchanged, changed}
-use Rattle.spirv_words.specs.Meaning.ModuleMeaning.{Run, results_in, leaves, variable, first_value, declares, after_label, goes_to, chooses, enters, step, steps, runs, run_whole, begun, reading_of, limit_of, module_meaning}
-use Rattle.spirv_words.specs.Meaning.ModuleDispatch.{then_run, run_all, group_of, module_dispatched}
+use Rattle.spirv_model.specs.Op.{Op}
+use Rattle.spirv_model.specs.Op as op
+use Rattle.spirv_model.specs.declared.storage_classes.TheConstants as class
+use Rattle.spirv_model.specs.Operands.{Verdict}
+use Rattle.spirv_model.specs.Meaning.Bindings.{words_at, is_writable, with_word}
+use Rattle.spirv_model.specs.Meaning.Values.{ToVariable, ToWord, Value, Word, Truth, At, of_one, of_two, selected, component, new_word, new_if_equal}
+use Rattle.spirv_model.specs.Meaning.Memory.{Memory, with_result, with_slot_word, with_existing, outer_variable, values_of, chained, loaded, stored, exchanged, changed}
+use Rattle.spirv_model.specs.Meaning.ModuleMeaning.{Run, results_in, leaves, variable, first_value, declares, after_label, goes_to, chooses, enters, step, steps, runs, run_whole, begun, reading_of, limit_of, module_meaning}
+use Rattle.spirv_model.specs.Meaning.ModuleDispatch.{then_run, run_all, group_of, module_dispatched}
 
 -- each slot that may be written has as many words as before
 abbrev pub SameSizes : Slots → Slots → Type 0
@@ -99,7 +99,7 @@ module _ (ids : Ids) (all : List Op) (go : Run) (keeps : Keeping go) where
   variable_keeps r (Some v) rest m = keeps rest _
 
   declares_keep : (r c : ℕ) (vs : List ℕ) (rest : List Op) (m : Memory) → KeepsSizes m.slots (declares all r c vs rest go m)
-  declares_keep r c vs rest m = by (c == class.function)
+  declares_keep r c vs rest m = by (c == class.FUNCTION)
     where
       by : (t : Bool) → KeepsSizes m.slots (if t then variable r (first_value m vs) rest go m else results_in (outer_variable c r all) r rest go m)
       by true = variable_keeps r (first_value m vs) rest m

@@ -4,7 +4,7 @@ use Rattle.shader_model.specs.Invocation.{Slots, words_in}
 use Rattle.shader_model.specs.Dispatch.{is_allowed, volume}
 use Rattle.std.specs.Prelude.{◌*◌}
 use Rattle.dx_types.specs.declared.limits.TheConstants.{CONSTANT_SLOTS, SRV_SLOTS, UAV_SLOTS}
-use Rattle.spirv_words.specs.Meaning.ModuleDispatch.{group_of, module_dispatched}
+use Rattle.spirv_model.specs.Meaning.ModuleDispatch.{group_of, module_dispatched}
 use Rattle.vk_types.specs.Lists.{numbers_from}
 use Rattle.vk_types.specs.Effects.{Meaning, SlotWords}
 

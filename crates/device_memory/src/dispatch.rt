@@ -1,9 +1,9 @@
 // Dispatches of a module.
 
-ghost use Rattle.std.specs.Prelude.{◌≡◌, ◌*◌, ◌<◌, ◌^◌, cond, nat_le, Some, IfOk, OnOk, OnErr};
+ghost use Rattle.std.specs.Prelude.{◌≡◌, ◌*◌, cond, Some, IfOk, OnOk, OnErr};
 ghost use Rattle.std.specs.List.{AllByRecursion};
 ghost use Rattle.shader_model.specs.Dispatch.{is_allowed, volume};
-ghost use Rattle.spirv_words.specs.Meaning.ModuleDispatch.{IsDefined, group_of, module_dispatched};
+ghost use Rattle.spirv_model.specs.Meaning.ModuleDispatch.{IsDefined, group_of, module_dispatched};
 ghost use Rattle.vk_types.specs.Lists.{Pairwise};
 ghost use Rattle.vk_types.specs.Effects.{group_counts, put_slots, slots_words};
 ghost use Rattle.device_memory.specs.Held.{AreAlike, memory_of};
@@ -12,51 +12,12 @@ ghost use Rattle.device_memory.specs.Ranges.{AreApart, CanBind};
 ghost use Rattle.device_memory.specs.Runs.{CanDispatch};
 
 use crate::DeviceMemory;
-use dx_types::limits::{MAX_GROUPS, MAX_INVOCATIONS};
+use shader_model::is_allowed;
 use shader_slots::Slots;
 use spirv_run::Machine;
 use spirv_words::Module;
 use std::alloc::AllocError;
 use vk_types::{Groups, SlotRange};
-
-fn product(x: u32, y: u32, z: u32) -> u128
-    ensures value { result ≡ x * y * z }
-    ensures limit { result < 2 ^ 96 }
-{
-    u128::from(x) * u128::from(y) * u128::from(z)
-}
-
-/// How many places there are below sizes.
-fn volume(sizes: [u32; 3]) -> u128
-    ensures value { result ≡ volume sizes }
-    ensures limit { result < 2 ^ 96 }
-{
-    product(sizes[0], sizes[1], sizes[2])
-}
-
-/// Whether so many groups of so many invocations each are few enough. No group at all is.
-fn are_few(count: u128, each: u128) -> bool
-    requires { count < 2 ^ 96 }
-    ensures { result ≡ nat_le (count * each) MAX_INVOCATIONS }
-{
-    if count == 0 {
-        return true;
-    }
-    if each > u128::from(MAX_INVOCATIONS) {
-        return false;
-    }
-    count * each <= u128::from(MAX_INVOCATIONS)
-}
-
-/// Whether so many groups of a size run.
-fn is_allowed(groups: [u32; 3], size: [u32; 3]) -> bool
-    ensures { result ≡ is_allowed groups size }
-{
-    if groups[0] > MAX_GROUPS || groups[1] > MAX_GROUPS || groups[2] > MAX_GROUPS {
-        return false;
-    }
-    are_few(volume(groups), volume(size))
-}
 
 /// Runs so many groups of a machine's module, and answers how many invocations ran. Where they are too many none does.
 fn run_allowed(machine: &mut Machine<'_>, counts: [u32; 3], bound: &mut Slots<'_>) -> u64

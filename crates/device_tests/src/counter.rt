@@ -1,7 +1,7 @@
 //! A module that counts its invocations.
 
 ghost use Rattle.std.specs.Prelude.{IfOk};
-ghost use Rattle.spirv_words.specs.Meaning.ModuleDispatch.{IsDefined};
+ghost use Rattle.spirv_model.specs.Meaning.ModuleDispatch.{IsDefined};
 
 use spirv_words::{Module, read_module};
 use std::alloc::Global;

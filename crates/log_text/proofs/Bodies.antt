@@ -6,7 +6,8 @@ use Rattle.byteorder.specs.Endian.{little_bytes}
 use Rattle.call_log.specs.Body.{word}
 use Rattle.call_log.specs.Put.{AreWords, spell_words}
 use Rattle.log_text.specs.LogText.{number_field, number_fields, bytes_field, words_of}
-use Rattle.log_text.specs.Reading.{AreBytes, StopsAt, ReadsNumbers}
+use Rattle.log_text.specs.Reading.{ReadsNumbers}
+use Rattle.text_words.specs.Words.{AreBytes, StopsAt}
 use Rattle.log_text.proofs.Numbers.{numbers_behind}
 
 four_back : (n : ℕ) → n < 2 ^ 32 → n % 256 + 256 * ((n / 256) % 256 + 256 * ((n / 65536) % 256 + 256 * ((n / 16777216) % 256 + 256 * 0))) ≡ n

@@ -1,6 +1,4 @@
-pub mod Digits
-pub mod Cuts
-pub mod Hex
+pub mod ByteFields
 pub mod Numbers
 pub mod Results
 pub mod Bodies

@@ -6,13 +6,14 @@ use Rattle.std.proofs.lemmas.List.{length-append, append-nil}
 use Rattle.std.proofs.lemmas.List.Concat.{flat_map-append, flat_map-cons}
 use Rattle.call_log.specs.Grammar.{Frame, IsFrame, header, end_record, spell}
 use Rattle.call_log.specs.Put.{AreWords}
-use Rattle.log_text.specs.declared.form.Shape.{Shape}
-use Rattle.log_text.specs.declared.form.Shape.TheVariants.{Numbers, Bytes, Tokens, Body}
+use Rattle.call_log.specs.declared.kinds.Layout.{Layout}
+use Rattle.call_log.specs.declared.kinds.Layout.TheVariants.{Words, Counted, Tokens, Free}
 use Rattle.log_text.specs.LogText.{number_field, bytes_field, words_of, fields, bare_line, line, first_line, end_line, IsRecord, LogText, IsFirstBad}
-use Rattle.log_text.specs.Reading.{AreBytes, Lacks, Cut, ReadsLine, Assembles}
-use Rattle.log_text.proofs.Cuts.{same_cut}
-use Rattle.log_text.proofs.Digits.{Lacks-decimal}
-use Rattle.log_text.proofs.Hex.{Lacks-encode_lower}
+use Rattle.log_text.specs.Reading.{ReadsLine, Assembles}
+use Rattle.text_words.specs.Words.{AreBytes, Lacks, Cut}
+use Rattle.text_words.proofs.Cutting.{same_cut}
+use Rattle.text_words.proofs.Digits.{Lacks-decimal}
+use Rattle.text_words.proofs.Hex.{Lacks-encode_lower}
 use Rattle.log_text.proofs.Bodies.{AreBytes-drop, AreWords-words_of}
 use Rattle.log_text.proofs.Names.{name_no_feed}
 use Rattle.log_text.proofs.LineParts.{parts_of}
@@ -30,26 +31,26 @@ Lacks-numbers : (ws : List ℕ) → AreWords ws → Lacks 10 (flat_map number_fi
 Lacks-numbers [] small = tt
 Lacks-numbers (w ∷ ws) small =
     subst (Lacks 10) (sym (flat_map-cons number_field w ws))
-    (Lacks-append 10 (number_field w) (flat_map number_field ws) (not_blank 32 refl, Lacks-decimal 10 w (omega arith) (omega arith)) (Lacks-numbers ws small.1))
+    (Lacks-append 10 (number_field w) (flat_map number_field ws) (not_blank 32 refl, Lacks-decimal 10 w (inl (omega arith)) (omega arith)) (Lacks-numbers ws small.1))
 
 Lacks-field : (bytes : List ℕ) → AreBytes bytes → Lacks 10 (bytes_field bytes)
 Lacks-field [] fit = ((λ e. absurd (omega arith)), ((λ e. absurd (omega arith)), tt))
 Lacks-field (b ∷ bs) fit = ((λ e. absurd (omega arith)), Lacks-encode_lower 10 (b ∷ bs) (omega arith) fit)
 
-Lacks-fields : (shape : Shape) (body : List ℕ) → AreBytes body → Lacks 10 (fields shape body)
+Lacks-fields : (layout : Layout) (body : List ℕ) → AreBytes body → Lacks 10 (fields layout body)
 unfolding fields
-Lacks-fields (Numbers n) body fit = Lacks-numbers (words_of n body) (AreWords-words_of n body fit)
-Lacks-fields (Bytes n) body fit = Lacks-append 10 _ _ (Lacks-numbers (words_of n body) (AreWords-words_of n body fit)) (Lacks-field _ (AreBytes-drop (4 * n + 4) body fit))
+Lacks-fields (Words n) body fit = Lacks-numbers (words_of n body) (AreWords-words_of n body fit)
+Lacks-fields (Counted n) body fit = Lacks-append 10 _ _ (Lacks-numbers (words_of n body) (AreWords-words_of n body fit)) (Lacks-field _ (AreBytes-drop (4 * n + 4) body fit))
 Lacks-fields Tokens body fit = Lacks-append 10 _ _ (Lacks-numbers (words_of 1 body) (AreWords-words_of 1 body fit)) (Lacks-field _ (AreBytes-drop 4 body fit))
-Lacks-fields Body body fit = Lacks-field body fit
+Lacks-fields Free body fit = Lacks-field body fit
 
 pub no_feed : (f : Frame) → IsRecord f → Lacks 10 (bare_line f)
 no_feed f r =
     let p = parts_of f r in
     let lt = r.frame.context_fits in
     subst (Lacks 10) (sym p.spelled)
-    (Lacks-append 10 (decimal f.context) _ (Lacks-decimal 10 f.context (omega arith) (omega arith))
-    (not_blank 32 refl, Lacks-append 10 p.form_is.name _ (name_no_feed f.kind p.form_is p.is) (Lacks-fields p.form_is.shape f.body r.bytes)))
+    (Lacks-append 10 (decimal f.context) _ (Lacks-decimal 10 f.context (inl (omega arith)) (omega arith))
+    (not_blank 32 refl, Lacks-append 10 p.kind_is.name _ (name_no_feed f.kind p.kind_is p.is) (Lacks-fields p.kind_is.layout f.body r.bytes)))
 
 -- ---- the line that stands in front
 

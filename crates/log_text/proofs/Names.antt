@@ -1,19 +1,19 @@
 -- The names of the kinds: no two are the same, and none has a blank or a line feed.
-use Rattle.std.proofs.Common.{◌≡◌, ℕ, zero, suc, Bool, true, false, cond, not, ◌&&◌, eqb, Option, Some, None, List, [], ◌∷◌, refl, sym, ap, ◌∙◌}
+use Rattle.std.proofs.Common.{◌≡◌, ℕ, Bool, true, false, cond, not, ◌&&◌, eqb, Option, Some, None, List, [], ◌∷◌, refl, sym, ap, ◌∙◌}
 use Rattle.std.proofs.lemmas.Bool.{eqb-true, eqb-false}
-use Rattle.log_text.specs.Forms.{Form, form}
-use Rattle.log_text.specs.Reading.{Lacks}
-use Rattle.log_text.proofs.Hex.{all_digits, digits_at}
-use Rattle.log_text.proofs.CallKinds.{kind_small}
+use Rattle.call_log.specs.Kinds.{Kind, kinds, kind_numbered}
+use Rattle.text_words.specs.Words.{Lacks}
+use Rattle.text_words.proofs.Hex.{all_digits, digits_at}
+use Rattle.call_log.proofs.KindTable.{kind_small}
 
 -- a test of the name of a form, if there is one
-name_test : (List ℕ → Bool) → Option Form → Bool
+name_test : (List ℕ → Bool) → Option Kind → Bool
 name_test p None = true
 name_test p (Some f) = p f.name
 
-named : (p : List ℕ → Bool) (k : ℕ) (f : Form) → form k ≡ Some f → all_digits (λ n. name_test p (form n)) 80 ≡ true → p f.name ≡ true
+named : (p : List ℕ → Bool) (k : ℕ) (f : Kind) → kind_numbered k ≡ Some f → all_digits (λ n. name_test p (kind_numbered n)) 80 ≡ true → p f.name ≡ true
 unfolding name_test
-named p k f e all = ap (name_test p) (sym e) ∙ digits_at (λ n. name_test p (form n)) 80 k all (kind_small k f e)
+named p k f e all = ap (name_test p) (sym e) ∙ digits_at (λ n. name_test p (kind_numbered n)) 80 k all (kind_small k f e)
 
 -- ---- no blank, no line feed
 
@@ -35,12 +35,12 @@ unfolding lacks_test
 lacks_from c [] e = tt
 lacks_from c (x ∷ xs) e = let parts = both (not (eqb x c)) (lacks_test c xs) e in (eqb-false x c (not_true (eqb x c) parts.0), lacks_from c xs parts.1)
 
-pub name_no_blank : (k : ℕ) (f : Form) → form k ≡ Some f → Lacks 32 f.name
-unfolding form name_test lacks_test all_digits
+pub name_no_blank : (k : ℕ) (f : Kind) → kind_numbered k ≡ Some f → Lacks 32 f.name
+unfolding kind_numbered name_test lacks_test all_digits
 name_no_blank k f e = lacks_from 32 f.name (named (lacks_test 32) k f e refl)
 
-pub name_no_feed : (k : ℕ) (f : Form) → form k ≡ Some f → Lacks 10 f.name
-unfolding form name_test lacks_test all_digits
+pub name_no_feed : (k : ℕ) (f : Kind) → kind_numbered k ≡ Some f → Lacks 10 f.name
+unfolding kind_numbered name_test lacks_test all_digits
 name_no_feed k f e = lacks_from 10 f.name (named (lacks_test 10) k f e refl)
 
 -- ---- no two are the same
@@ -51,23 +51,19 @@ same_list [] (y ∷ ys) = false
 same_list (x ∷ xs) [] = false
 same_list (x ∷ xs) (y ∷ ys) = cond (eqb x y) (same_list xs ys) false
 
-pick : Option Form → List ℕ → ℕ → ℕ → ℕ
-pick None name k other = other
-pick (Some f) name k other = cond (same_list f.name name) k other
+-- the number of the last of some kinds that has a name
+last_named : List Kind → List ℕ → ℕ
+last_named [] name = 0
+last_named (k ∷ ks) name = cond (same_list k.name name) (cond (eqb (last_named ks name) 0) k.number (last_named ks name)) (last_named ks name)
 
--- the last kind below a number that has this name
-last_named : ℕ → List ℕ → ℕ
-last_named zero name = 0
-last_named (suc n) name = pick (form n) name n (last_named n name)
+kind_test : ℕ → Option Kind → Bool
+kind_test n None = true
+kind_test n (Some k) = eqb (last_named kinds k.name) n
 
-kind_test : ℕ → Option Form → Bool
-kind_test k None = true
-kind_test k (Some f) = eqb (last_named 80 f.name) k
-
-kind_named : (k : ℕ) (f : Form) → form k ≡ Some f → last_named 80 f.name ≡ k
-unfolding form same_list pick last_named kind_test all_digits
-kind_named k f e = eqb-true _ _ (ap (kind_test k) (sym e) ∙ digits_at (λ n. kind_test n (form n)) 80 k refl (kind_small k f e))
+number_of_name : (n : ℕ) (k : Kind) → kind_numbered n ≡ Some k → last_named kinds k.name ≡ n
+unfolding kind_numbered same_list last_named kind_test all_digits
+number_of_name n k e = eqb-true _ _ (ap (kind_test n) (sym e) ∙ digits_at (λ m. kind_test m (kind_numbered m)) 80 n refl (kind_small n k e))
 
 -- two kinds of one name are the same
-pub same_name : (k j : ℕ) (f g : Form) → form k ≡ Some f → form j ≡ Some g → f.name ≡ g.name → k ≡ j
-same_name k j f g p q e = sym (kind_named k f p) ∙ ap (last_named 80) e ∙ kind_named j g q
+pub same_name : (k j : ℕ) (f g : Kind) → kind_numbered k ≡ Some f → kind_numbered j ≡ Some g → f.name ≡ g.name → k ≡ j
+same_name k j f g p q e = sym (number_of_name k f p) ∙ ap (last_named kinds) e ∙ number_of_name j g q

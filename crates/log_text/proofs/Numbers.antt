@@ -1,5 +1,5 @@
 -- The fields of a line, as they are read.
-use Rattle.std.proofs.Common.{◌≡◌, ℕ, zero, suc, ◌+◌, ◌^◌, ◌<◌, ◌≤◌, List, [], ◌∷◌, ◌++◌, length, drop, refl, sym, ap, ◌∙◌, append_assoc, arith}
+use Rattle.std.proofs.Common.{inl, ◌≡◌, ℕ, zero, suc, ◌+◌, ◌^◌, ◌<◌, ◌≤◌, List, [], ◌∷◌, ◌++◌, length, drop, refl, sym, ap, ◌∙◌, append_assoc, arith}
 use Rattle.std.specs.List.{flat_map}
 use Rattle.std.specs.Fmt.{decimal}
 use Rattle.std.proofs.lemmas.List.{length-append, length-drop, append-nil}
@@ -7,15 +7,16 @@ use Rattle.std.proofs.lemmas.List.Concat.{flat_map-append, flat_map-cons}
 use Rattle.byteorder.specs.Endian.{little_bytes}
 use Rattle.call_log.specs.Put.{AreWords, spell_words}
 use Rattle.log_text.specs.LogText.{number_field}
-use Rattle.log_text.specs.Reading.{StopsAt, Cut, ReadsNumbers}
-use Rattle.log_text.proofs.Cuts.{same_cut}
-use Rattle.log_text.proofs.Digits.{Lacks-decimal}
+use Rattle.log_text.specs.Reading.{ReadsNumbers}
+use Rattle.text_words.specs.Words.{StopsAt, Cut}
+use Rattle.text_words.proofs.Cutting.{same_cut}
+use Rattle.text_words.proofs.Digits.{Lacks-decimal}
 
 -- the word that stands in front of a number's fields
 pub word_is : (text word behind : List ℕ) (w : ℕ) (rest : List ℕ) → Cut 32 text word behind → w < 2 ^ 32 → StopsAt 32 rest → text ≡ decimal w ++ rest
     → (word ≡ decimal w) × (behind ≡ rest)
 word_is text word behind w rest cut lt stops e =
-    same_cut 32 word (decimal w) behind rest cut.lacks (Lacks-decimal 32 w (omega arith) (omega arith)) cut.stops stops (sym cut.spelled ∙ e)
+    same_cut 32 word (decimal w) behind rest cut.lacks (Lacks-decimal 32 w (inl (omega arith)) (omega arith)) cut.stops stops (sym cut.spelled ∙ e)
 
 pub one_number : (text rest old new : List ℕ) (n : ℕ) → n < 2 ^ 32 → text ≡ number_field n ++ rest → new ≡ old ++ little_bytes 4 n → ReadsNumbers 1 text rest old new
 unfolding spell_words
@@ -66,7 +67,7 @@ numbers_cons w ws rest = ap (λ (l : List ℕ). l ++ rest) (flat_map-cons number
 -- a number and what follows it are read in one way
 pub same_number : (w v : ℕ) (x y : List ℕ) → w < 2 ^ 32 → v < 2 ^ 32 → StopsAt 32 x → StopsAt 32 y → number_field w ++ x ≡ number_field v ++ y → (decimal w ≡ decimal v) × (x ≡ y)
 same_number w v x y p q sx sy e =
-    same_cut 32 (decimal w) (decimal v) x y (Lacks-decimal 32 w (omega arith) (omega arith)) (Lacks-decimal 32 v (omega arith) (omega arith)) sx sy (ap (drop 1) e)
+    same_cut 32 (decimal w) (decimal v) x y (Lacks-decimal 32 w (inl (omega arith)) (omega arith)) (Lacks-decimal 32 v (inl (omega arith)) (omega arith)) sx sy (ap (drop 1) e)
 
 -- what follows some numbers is what follows as many of any reading
 pub numbers_behind : (ws vs rest last : List ℕ) → AreWords ws → AreWords vs → StopsAt 32 rest → StopsAt 32 last → length ws ≤ length vs

@@ -1,5 +1,5 @@
 -- No two records have the same line, and none begins another.
-use Rattle.std.proofs.Common.{◌≡◌, ℕ, ◌+◌, ◌*◌, ◌%◌, ◌≤◌, eqb, leb, List, [], ◌∷◌, ◌++◌, length, drop, refl, sym, ap, subst, ◌∙◌, arith}
+use Rattle.std.proofs.Common.{inl, ◌≡◌, ℕ, ◌+◌, ◌*◌, ◌%◌, ◌≤◌, eqb, leb, List, [], ◌∷◌, ◌++◌, length, drop, refl, sym, ap, subst, ◌∙◌, arith}
 use Rattle.std.specs.List.{flat_map}
 use Rattle.std.specs.Fmt.{decimal}
 use Rattle.std.proofs.lemmas.Bool.{eqb-true, leb-true}
@@ -11,14 +11,15 @@ use Rattle.hex.proofs.HexLemmas.{decode_of-encode_lower, decode_of-same, length-
 use Rattle.call_log.specs.Body.{word}
 use Rattle.call_log.specs.Put.{AreWords, spell_words}
 use Rattle.call_log.specs.Grammar.{Frame}
-use Rattle.log_text.specs.declared.form.Shape.{Shape}
-use Rattle.log_text.specs.declared.form.Shape.TheVariants.{Numbers, Bytes, Tokens, Body}
-use Rattle.log_text.specs.Forms.{Form, form}
+use Rattle.call_log.specs.declared.kinds.Layout.{Layout}
+use Rattle.call_log.specs.declared.kinds.Layout.TheVariants.{Words, Counted, Tokens, Free}
+use Rattle.call_log.specs.Kinds.{Kind, kind_numbered}
 use Rattle.log_text.specs.LogText.{number_field, number_fields, bytes_field, words_of, fields, bare_line, line, IsRecord}
-use Rattle.log_text.specs.Reading.{AreBytes, StopsAt, HasShape}
-use Rattle.log_text.proofs.Cuts.{same_cut}
-use Rattle.log_text.proofs.Digits.{Lacks-decimal}
-use Rattle.log_text.proofs.Hex.{is_bytes}
+use Rattle.log_text.specs.Reading.{HasLayout}
+use Rattle.text_words.specs.Words.{AreBytes, StopsAt}
+use Rattle.text_words.proofs.Cutting.{same_cut}
+use Rattle.text_words.proofs.Digits.{Lacks-decimal}
+use Rattle.text_words.proofs.Hex.{is_bytes}
 use Rattle.log_text.proofs.Numbers.{same_number, stops_numbers, numbers_cons}
 use Rattle.log_text.proofs.Bodies.{words_and_rest, AreWords-words_of, length-words_of, AreBytes-drop, stops_field, four_front}
 use Rattle.log_text.proofs.Shapes.{both_true}
@@ -48,12 +49,12 @@ same_bytes_field (b ∷ bs) (c ∷ cs) p q e =
 
 -- ---- a body from its fields
 
-whole_numbers : (n : ℕ) (b : List ℕ) → HasShape (Numbers n) b → b ≡ spell_words (words_of n b) ++ []
+whole_numbers : (n : ℕ) (b : List ℕ) → HasLayout (Words n) b → b ≡ spell_words (words_of n b) ++ []
 whole_numbers n b h =
     let long : length b ≡ 4 * n = eqb-true _ _ h.fits in
     sym (words_and_rest n b h.bytes (omega arith)) ∙ ap (λ (l : List ℕ). spell_words (words_of n b) ++ l) (drop_all (4 * n) b (omega arith))
 
-whole_bytes : (n : ℕ) (b : List ℕ) → HasShape (Bytes n) b → b ≡ spell_words (words_of n b) ++ (little_bytes 4 (length (drop (4 * n + 4) b)) ++ drop (4 * n + 4) b)
+whole_bytes : (n : ℕ) (b : List ℕ) → HasLayout (Counted n) b → b ≡ spell_words (words_of n b) ++ (little_bytes 4 (length (drop (4 * n + 4) b)) ++ drop (4 * n + 4) b)
 whole_bytes n b h =
     let parts = both_true (leb (4 * n + 4) (length b)) (eqb (length b) (4 * n + 4 + word n b)) h.fits in
     let le : 4 * n + 4 ≤ length b = leb-true _ _ parts.0 in
@@ -64,7 +65,7 @@ whole_bytes n b h =
     sym (words_and_rest n b h.bytes (omega arith))
     ∙ ap (λ (l : List ℕ). spell_words (words_of n b) ++ l) (behind ∙ ap (λ (k : ℕ). little_bytes 4 k ++ drop (4 * n + 4) b) len)
 
-whole_tokens : (b : List ℕ) → HasShape Tokens b → b ≡ spell_words (words_of 1 b) ++ drop 4 b
+whole_tokens : (b : List ℕ) → HasLayout Tokens b → b ≡ spell_words (words_of 1 b) ++ drop 4 b
 whole_tokens b h =
     let parts = both_true (leb 4 (length b)) (eqb (length b % 4) 0) h.fits in
     let le : 4 ≤ length b = leb-true _ _ parts.0 in
@@ -74,12 +75,12 @@ words_then : (n : ℕ) (b c x y : List ℕ) → AreBytes b → AreBytes c → St
 words_then n b c x y p q sx sy e =
     same_words (words_of n b) (words_of n c) x y (length-words_of n b ∙ sym (length-words_of n c)) (AreWords-words_of n b p) (AreWords-words_of n c q) sx sy e
 
-same_fields : (shape : Shape) (b c : List ℕ) → HasShape shape b → HasShape shape c → fields shape b ≡ fields shape c → b ≡ c
+same_fields : (layout : Layout) (b c : List ℕ) → HasLayout layout b → HasLayout layout c → fields layout b ≡ fields layout c → b ≡ c
 unfolding fields
-same_fields (Numbers n) b c p q e =
+same_fields (Words n) b c p q e =
     let same = words_then n b c [] [] p.bytes q.bytes tt tt (append-nil (number_fields n b) ∙ e ∙ sym (append-nil (number_fields n c))) in
     whole_numbers n b p ∙ ap (λ (ws : List ℕ). spell_words ws ++ []) same.0 ∙ sym (whole_numbers n c q)
-same_fields (Bytes n) b c p q e =
+same_fields (Counted n) b c p q e =
     let same = words_then n b c _ _ p.bytes q.bytes (stops_field (drop (4 * n + 4) b)) (stops_field (drop (4 * n + 4) c)) e in
     let tail = same_bytes_field _ _ (AreBytes-drop (4 * n + 4) b p.bytes) (AreBytes-drop (4 * n + 4) c q.bytes) same.1 in
     whole_bytes n b p ∙ ap (λ (ws : List ℕ). spell_words ws ++ (little_bytes 4 (length (drop (4 * n + 4) b)) ++ drop (4 * n + 4) b)) same.0
@@ -88,7 +89,7 @@ same_fields Tokens b c p q e =
     let same = words_then 1 b c _ _ p.bytes q.bytes (stops_field (drop 4 b)) (stops_field (drop 4 c)) e in
     let tail = same_bytes_field _ _ (AreBytes-drop 4 b p.bytes) (AreBytes-drop 4 c q.bytes) same.1 in
     whole_tokens b p ∙ ap (λ (ws : List ℕ). spell_words ws ++ drop 4 b) same.0 ∙ ap (λ (t : List ℕ). spell_words (words_of 1 c) ++ t) tail ∙ sym (whole_tokens c q)
-same_fields Body b c p q e = same_bytes_field b c p.bytes q.bytes e
+same_fields Free b c p q e = same_bytes_field b c p.bytes q.bytes e
 
 -- ---- lines
 
@@ -99,17 +100,17 @@ same_bare f g r s e =
     let cf = r.frame.context_fits in
     let cg = s.frame.context_fits in
     let first =
-    same_cut 32 (decimal f.context) (decimal g.context) (32 ∷ (p.form_is.name ++ fields p.form_is.shape f.body)) (32 ∷ (q.form_is.name ++ fields q.form_is.shape g.body))
-    (Lacks-decimal 32 f.context (omega arith) (omega arith)) (Lacks-decimal 32 g.context (omega arith) (omega arith)) refl refl (sym p.spelled ∙ e ∙ q.spelled) in
+    same_cut 32 (decimal f.context) (decimal g.context) (32 ∷ (p.kind_is.name ++ fields p.kind_is.layout f.body)) (32 ∷ (q.kind_is.name ++ fields q.kind_is.layout g.body))
+    (Lacks-decimal 32 f.context (inl (omega arith)) (omega arith)) (Lacks-decimal 32 g.context (inl (omega arith)) (omega arith)) refl refl (sym p.spelled ∙ e ∙ q.spelled) in
     let context : f.context ≡ g.context = decimal_injective f.context g.context (omega arith) (omega arith) first.0 in
     let second =
-    same_cut 32 p.form_is.name q.form_is.name (fields p.form_is.shape f.body) (fields q.form_is.shape g.body)
-    (name_no_blank f.kind p.form_is p.is) (name_no_blank g.kind q.form_is q.is) (stops_fields p.form_is.shape f.body) (stops_fields q.form_is.shape g.body) (ap (drop 1) first.1) in
-    let kind : f.kind ≡ g.kind = same_name f.kind g.kind p.form_is q.form_is p.is q.is second.0 in
-    let forms : q.form_is ≡ p.form_is = some_same q.form_is p.form_is (form g.kind) q.is (ap form (sym kind) ∙ p.is) in
-    let shape : q.form_is.shape ≡ p.form_is.shape = ap (λ (x : Form). x.shape) forms in
+    same_cut 32 p.kind_is.name q.kind_is.name (fields p.kind_is.layout f.body) (fields q.kind_is.layout g.body)
+    (name_no_blank f.kind p.kind_is p.is) (name_no_blank g.kind q.kind_is q.is) (stops_fields p.kind_is.layout f.body) (stops_fields q.kind_is.layout g.body) (ap (drop 1) first.1) in
+    let kind : f.kind ≡ g.kind = same_name f.kind g.kind p.kind_is q.kind_is p.is q.is second.0 in
+    let forms : q.kind_is ≡ p.kind_is = some_same q.kind_is p.kind_is (kind_numbered g.kind) q.is (ap kind_numbered (sym kind) ∙ p.is) in
+    let layout : q.kind_is.layout ≡ p.kind_is.layout = ap (λ (x : Kind). x.layout) forms in
     let body : f.body ≡ g.body =
-    same_fields p.form_is.shape f.body g.body p.shaped (subst (λ (x : Shape). HasShape x g.body) shape q.shaped) (second.1 ∙ ap (λ (x : Shape). fields x g.body) shape) in
+    same_fields p.kind_is.layout f.body g.body p.shaped (subst (λ (x : Layout). HasLayout x g.body) layout q.shaped) (second.1 ∙ ap (λ (x : Layout). fields x g.body) layout) in
     λ i. record { kind = kind i; context = context i; body = body i }
 
 pub line_front : (f g : Frame) (x y : List ℕ) → IsRecord f → IsRecord g → line f ++ x ≡ line g ++ y → (f ≡ g) × (x ≡ y)

@@ -1,4 +1,4 @@
--- The fields of each shape, as they are read.
+-- The fields of each layout, as they are read.
 use Rattle.std.proofs.Common.{◌≡◌, ℕ, ◌+◌, ◌*◌, ◌/◌, ◌%◌, ◌^◌, ◌<◌, ◌≤◌, Bool, true, false, ◌&&◌, eqb, leb, List, [], ◌∷◌, ◌++◌, length, drop, refl, sym, ap, subst, ◌∙◌, append_assoc, arith}
 use Rattle.std.specs.List.{flat_map}
 use Rattle.std.proofs.lemmas.Bool.{eqb-true, leb-true, eq-eqb}
@@ -7,10 +7,11 @@ use Rattle.std.proofs.lemmas.List.{length-append, length-drop, append-nil, drop-
 use Rattle.byteorder.specs.Endian.{little_bytes}
 use Rattle.call_log.specs.Body.{word}
 use Rattle.call_log.specs.Put.{spell_words}
-use Rattle.log_text.specs.declared.form.Shape.TheVariants.{Numbers, Bytes, Tokens, Body}
+use Rattle.call_log.specs.declared.kinds.Layout.TheVariants.{Words, Counted, Tokens, Free}
 use Rattle.log_text.specs.LogText.{number_field, number_fields, bytes_field, fields}
-use Rattle.log_text.specs.Reading.{AreBytes, StopsAt, ReadsNumbers, ReadsBytes, ReadsBody, PutsBody, HasShape}
-use Rattle.log_text.proofs.Hex.{field_count}
+use Rattle.log_text.specs.Reading.{ReadsNumbers, ReadsBytes, ReadsBody, PutsBody, HasLayout}
+use Rattle.text_words.specs.Words.{AreBytes, StopsAt}
+use Rattle.log_text.proofs.ByteFields.{field_count}
 use Rattle.log_text.proofs.Bodies.{words_put, rest_put, rest_is, length-spell_words, AreBytes-append, AreBytes-spell_words, stops_field}
 
 empty : (xs : List ℕ) → length xs ≡ 0 → xs ≡ []
@@ -30,7 +31,7 @@ alone_bytes text old new front b = record { bytes = b.bytes; fit = b.fit; spelle
 
 -- ---- numbers alone
 
-numbers_found : (n : ℕ) (text rest new : List ℕ) → n < 256 → ReadsNumbers n text rest [] new → length rest ≡ 0 → ReadsBody (Numbers n) text new
+numbers_found : (n : ℕ) (text rest new : List ℕ) → n < 256 → ReadsNumbers n text rest [] new → length rest ≡ 0 → ReadsBody (Words n) text new
 unfolding fields
 numbers_found n text rest new few r none =
     let put : new ≡ spell_words r.words ++ [] = r.put ∙ sym (append-nil (spell_words r.words)) in
@@ -46,23 +47,23 @@ numbers_found n text rest new few r none =
           ∙ ap (flat_map number_field) (sym (words_put n r.words [] new r.count r.small put));
     }
 
-pub numbers_put : (n : ℕ) (text rest old new : List ℕ) → n < 256 → ReadsNumbers n text rest old new → length rest ≡ 0 → PutsBody (Numbers n) text old new
+pub numbers_put : (n : ℕ) (text rest old new : List ℕ) → n < 256 → ReadsNumbers n text rest old new → length rest ≡ 0 → PutsBody (Words n) text old new
 numbers_put n text rest old new few r none = record { body = spell_words r.words; reads = numbers_found n text rest _ few (alone n text rest old new r) none; put = r.put }
 
-pub numbers_text : (n : ℕ) (text body : List ℕ) → text ≡ fields (Numbers n) body → text ≡ number_fields n body ++ []
+pub numbers_text : (n : ℕ) (text body : List ℕ) → text ≡ fields (Words n) body → text ≡ number_fields n body ++ []
 unfolding fields
 numbers_text n text body e = e ∙ sym (append-nil (number_fields n body))
 
-pub numbers_rest : (n : ℕ) (text rest old new body : List ℕ) → ReadsNumbers n text rest old new → StopsAt 32 rest → HasShape (Numbers n) body → text ≡ fields (Numbers n) body → rest ≡ []
+pub numbers_rest : (n : ℕ) (text rest old new body : List ℕ) → ReadsNumbers n text rest old new → StopsAt 32 rest → HasLayout (Words n) body → text ≡ fields (Words n) body → rest ≡ []
 numbers_rest n text rest old new body r sr h e = rest_is n text rest old new body [] r sr h.bytes tt (numbers_text n text body e)
 
 -- ---- numbers, and then bytes
 
-pub bytes_text : (n : ℕ) (text body : List ℕ) → text ≡ fields (Bytes n) body → text ≡ number_fields n body ++ bytes_field (drop (4 * n + 4) body)
+pub bytes_text : (n : ℕ) (text body : List ℕ) → text ≡ fields (Counted n) body → text ≡ number_fields n body ++ bytes_field (drop (4 * n + 4) body)
 unfolding fields
 bytes_text n text body e = e
 
-pub bytes_rest : (n : ℕ) (text rest old new body : List ℕ) → ReadsNumbers n text rest old new → StopsAt 32 rest → HasShape (Bytes n) body → text ≡ fields (Bytes n) body
+pub bytes_rest : (n : ℕ) (text rest old new body : List ℕ) → ReadsNumbers n text rest old new → StopsAt 32 rest → HasLayout (Counted n) body → text ≡ fields (Counted n) body
     → rest ≡ bytes_field (drop (4 * n + 4) body)
 bytes_rest n text rest old new body r sr h e = rest_is n text rest old new body _ r sr h.bytes (stops_field (drop (4 * n + 4) body)) (bytes_text n text body e)
 
@@ -73,7 +74,7 @@ counted : (n m w b : ℕ) → w ≡ b → m ≡ 4 * n + 4 + b → leb (4 * n + 4
 counted n m w b e is = grind (arith, nat_tests)
 
 bytes_found : (n len : ℕ) (text rest mid more new : List ℕ) → n < 256 → length text < 2 ^ 32 → ReadsNumbers n text rest [] mid → more ≡ mid ++ little_bytes 4 len
-    → ((bytes : List ℕ) → rest ≡ bytes_field bytes → len ≡ length bytes) → ReadsBytes rest more new → ReadsBody (Bytes n) text new
+    → ((bytes : List ℕ) → rest ≡ bytes_field bytes → len ≡ length bytes) → ReadsBytes rest more new → ReadsBody (Counted n) text new
 unfolding fields
 bytes_found n len text rest mid more new few small r put counts b =
     let bytes : List ℕ = b.bytes in
@@ -99,7 +100,7 @@ bytes_found n len text rest mid more new few small r put counts b =
     }
 
 pub bytes_put : (n len : ℕ) (text rest old mid more new : List ℕ) → n < 256 → length text < 2 ^ 32 → ReadsNumbers n text rest old mid → more ≡ mid ++ little_bytes 4 len
-    → ((bytes : List ℕ) → rest ≡ bytes_field bytes → len ≡ length bytes) → ReadsBytes rest more new → PutsBody (Bytes n) text old new
+    → ((bytes : List ℕ) → rest ≡ bytes_field bytes → len ≡ length bytes) → ReadsBytes rest more new → PutsBody (Counted n) text old new
 bytes_put n len text rest old mid more new few small r put counts b =
     let front : List ℕ = spell_words r.words ++ little_bytes 4 len in
     record {
@@ -116,7 +117,7 @@ pub tokens_text : (text body : List ℕ) → text ≡ fields Tokens body → tex
 unfolding fields
 tokens_text text body e = e
 
-pub tokens_rest : (text rest old new body : List ℕ) → ReadsNumbers 1 text rest old new → StopsAt 32 rest → HasShape Tokens body → text ≡ fields Tokens body
+pub tokens_rest : (text rest old new body : List ℕ) → ReadsNumbers 1 text rest old new → StopsAt 32 rest → HasLayout Tokens body → text ≡ fields Tokens body
     → rest ≡ bytes_field (drop 4 body)
 tokens_rest text rest old new body r sr h e = rest_is 1 text rest old new body _ r sr h.bytes (stops_field (drop 4 body)) (tokens_text text body e)
 
@@ -125,8 +126,8 @@ both_true true true e = (refl, refl)
 both_true true false e = absurd cc
 both_true false b e = absurd cc
 
--- a body of this shape has whole token words
-pub tokens_whole : (body : List ℕ) → HasShape Tokens body → length (drop 4 body) % 4 ≡ 0
+-- a body of this layout has whole token words
+pub tokens_whole : (body : List ℕ) → HasLayout Tokens body → length (drop 4 body) % 4 ≡ 0
 tokens_whole body h =
     let parts = both_true (leb 4 (length body)) (eqb (length body % 4) 0) h.fits in
     let le : 4 ≤ length body = leb-true _ _ parts.0 in
@@ -170,16 +171,16 @@ tokens_put text rest old mid new len small r counts even b =
 
 -- ---- bytes alone
 
-pub body_text : (text body : List ℕ) → text ≡ fields Body body → text ≡ bytes_field body
+pub body_text : (text body : List ℕ) → text ≡ fields Free body → text ≡ bytes_field body
 unfolding fields
 body_text text body e = e
 
-body_found : (text new : List ℕ) → length text < 2 ^ 32 → ReadsBytes text [] new → ReadsBody Body text new
+body_found : (text new : List ℕ) → length text < 2 ^ 32 → ReadsBytes text [] new → ReadsBody Free text new
 unfolding fields
 body_found text new small b = record {
   shaped = record { fits = refl; bytes = subst AreBytes (sym b.put) b.fit; small = omega (arith, ap length b.put, ap length b.spelled, field_long b.bytes) };
   spelled = b.spelled ∙ ap bytes_field (sym b.put);
 }
 
-pub body_put : (text old new : List ℕ) → length text < 2 ^ 32 → ReadsBytes text old new → PutsBody Body text old new
+pub body_put : (text old new : List ℕ) → length text < 2 ^ 32 → ReadsBytes text old new → PutsBody Free text old new
 body_put text old new small b = record { body = b.bytes; reads = body_found text b.bytes small (alone_bytes text old new [] b); put = b.put }

@@ -8,8 +8,8 @@ use Rattle.call_log.specs.Grammar.{Frame, IsFrame, IsLog, header, end_record, sp
 use Rattle.call_log.specs.Grammar as grammar
 use Rattle.call_log.proofs.OneReading.{one_log}
 use Rattle.log_text.specs.LogText.{bare_line, line, first_line, end_line, text_of, IsRecord, IsTextOf, LogText, IsBadCall, IsBadAfterEnd, IsFirstBad}
-use Rattle.log_text.specs.Reading.{AreBytes, Lacks}
-use Rattle.log_text.proofs.Cuts.{same_cut, lacks_not}
+use Rattle.text_words.specs.Words.{AreBytes, Lacks}
+use Rattle.text_words.proofs.Cutting.{same_cut, lacks_not}
 use Rattle.log_text.proofs.LineParts.{parts_of}
 use Rattle.log_text.proofs.Lines.{no_feed, line_then}
 use Rattle.log_text.proofs.SameLine.{line_front}

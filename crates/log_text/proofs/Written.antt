@@ -7,8 +7,7 @@ use Rattle.hex.specs.Hex.{encode_lower, encode_with, lower_digits}
 use Rattle.call_log.specs.Body.{word}
 use Rattle.std.specs.Fmt.{decimal}
 use Rattle.call_log.specs.Grammar.{Frame}
-use Rattle.log_text.specs.declared.form.Shape.{Shape}
-use Rattle.log_text.specs.Forms.{Form, form}
+use Rattle.call_log.specs.Kinds.{Kind, kind_numbered}
 use Rattle.log_text.specs.LogText.{number_field, number_fields, bytes_field, words_of, fields, line, name_and_fields}
 use Rattle.log_text.specs.Reading.{call_text}
 
@@ -57,16 +56,16 @@ bytes_written n from old mid new body rest numbers is put =
     put ∙ ap (λ (l : List ℕ). mid ++ bytes_field l) is ∙ ap (λ (l : List ℕ). l ++ bytes_field (drop from body)) numbers
     ∙ append_assoc old (number_fields n body) (bytes_field (drop from body))
 
-pub line_written : (kind context : ℕ) (body name : List ℕ) (shape : Shape) (old head all new : List ℕ) → Some (record { name = name; shape = shape }) ≡ form kind
-    → head ≡ old ++ (decimal context ++ (32 ∷ name)) → all ≡ head ++ fields shape body → new ≡ all ++ 10 ∷ [] → new ≡ old ++ line (record { kind = kind; context = context; body = body })
+pub line_written : (number context : ℕ) (body : List ℕ) (k : Kind) (old head all new : List ℕ) → Some k ≡ kind_numbered number
+    → head ≡ old ++ (decimal context ++ (32 ∷ k.name)) → all ≡ head ++ fields k.layout body → new ≡ all ++ 10 ∷ [] → new ≡ old ++ line (record { kind = number; context = context; body = body })
 unfolding line
-line_written kind context body name shape old head all new is first second third =
-    let bare : List ℕ = decimal context ++ (32 ∷ (name ++ fields shape body)) in
-    let joined : head ++ fields shape body ≡ old ++ bare =
-    ap (λ (l : List ℕ). l ++ fields shape body) first ∙ append_assoc old (decimal context ++ (32 ∷ name)) (fields shape body)
-    ∙ ap (λ (l : List ℕ). old ++ l) (append_assoc (decimal context) (32 ∷ name) (fields shape body)) in
+line_written number context body k old head all new is first second third =
+    let bare : List ℕ = decimal context ++ (32 ∷ (k.name ++ fields k.layout body)) in
+    let joined : head ++ fields k.layout body ≡ old ++ bare =
+    ap (λ (l : List ℕ). l ++ fields k.layout body) first ∙ append_assoc old (decimal context ++ (32 ∷ k.name)) (fields k.layout body)
+    ∙ ap (λ (l : List ℕ). old ++ l) (append_assoc (decimal context) (32 ∷ k.name) (fields k.layout body)) in
     third ∙ ap (λ (l : List ℕ). l ++ 10 ∷ []) (second ∙ joined) ∙ append_assoc old bare (10 ∷ [])
-    ∙ ap (λ (o : Option Form). old ++ ((decimal context ++ name_and_fields o body) ++ 10 ∷ [])) is
+    ∙ ap (λ (o : Option Kind). old ++ ((decimal context ++ name_and_fields o body) ++ 10 ∷ [])) is
 
 -- ---- calls
 

@@ -6,9 +6,9 @@ use Rattle.call_log.specs.Body.{word}
 use Rattle.call_log.specs.Grammar.{Frame, IsFrame, IsLog}
 use Rattle.log_text.specs.declared.text_end.TextEnd.{TextEnd}
 use Rattle.log_text.specs.declared.text_end.TextEnd.TheVariants.{Bad, NoMemory}
-use Rattle.log_text.specs.declared.form.Shape.{Shape}
-use Rattle.log_text.specs.declared.form.Shape.TheVariants.{Numbers, Bytes, Tokens, Body}
-use Rattle.log_text.specs.Forms.{Form, form}
+use Rattle.call_log.specs.declared.kinds.Layout.{Layout}
+use Rattle.call_log.specs.declared.kinds.Layout.TheVariants.{Words, Counted, Tokens, Free}
+use Rattle.call_log.specs.Kinds.{Kind, kind_numbered}
 
 -- ---- the line of a record
 
@@ -31,20 +31,20 @@ abbrev pub number_fields : ℕ → List ℕ → List ℕ
 number_fields n body = flat_map number_field (words_of n body)
 
 -- The fields of a body in its order. The length of bytes isn't written.
-unfoldable pub fields : Shape → List ℕ → List ℕ
-fields (Numbers n) body = number_fields n body
-fields (Bytes n) body = number_fields n body ++ bytes_field (drop (4 * n + 4) body)
+unfoldable pub fields : Layout → List ℕ → List ℕ
+fields (Words n) body = number_fields n body
+fields (Counted n) body = number_fields n body ++ bytes_field (drop (4 * n + 4) body)
 fields Tokens body = number_fields 1 body ++ bytes_field (drop 4 body)
-fields Body body = bytes_field body
+fields Free body = bytes_field body
 
 -- A kind's name and the fields of a body, behind one blank each.
-abbrev pub name_and_fields : Option Form → List ℕ → List ℕ
+abbrev pub name_and_fields : Option Kind → List ℕ → List ℕ
 name_and_fields None body = []
-name_and_fields (Some f) body = 32 ∷ (f.name ++ fields f.shape body)
+name_and_fields (Some f) body = 32 ∷ (f.name ++ fields f.layout body)
 
 -- The line of a record without its line feed: the context, the kind's name, and the fields.
 abbrev pub bare_line : Frame → List ℕ
-bare_line f = decimal f.context ++ name_and_fields (form f.kind) f.body
+bare_line f = decimal f.context ++ name_and_fields (kind_numbered f.kind) f.body
 
 -- The line of a record.
 unfoldable pub line : Frame → List ℕ

@@ -1,44 +1,14 @@
 -- What the pieces of the reader and the writer promise of each other.
-use Rattle.std.specs.Prelude.{◌≡◌, ◌≢◌, ℕ, ◌+◌, ◌*◌, ◌%◌, ◌==◌, ◌<◌, ◌^◌, nat_le, Bool, true, not, ◌&&◌, ◌||◌, IsTrue, ⊤, Option, None, Some, List, [], ◌∷◌, ◌++◌, length}
+use Rattle.std.specs.Prelude.{◌≡◌, ℕ, ◌+◌, ◌<◌, ◌^◌, IsTrue, ⊤, Option, None, Some, List, [], ◌++◌, length}
 use Rattle.std.specs.List.{flat_map, AllByRecursion}
-use Rattle.call_log.specs.Body.{word}
+use Rattle.call_log.specs.Body.{fits_layout}
 use Rattle.call_log.specs.Put.{AreWords, spell_words}
 use Rattle.log_text.specs.declared.text_end.Stop.{Stop}
 use Rattle.log_text.specs.declared.text_end.Stop.TheVariants.{Bad, NoMemory}
-use Rattle.log_text.specs.declared.form.Shape.{Shape}
-use Rattle.log_text.specs.declared.form.Shape.TheVariants.{Numbers, Bytes, Tokens, Body}
+use Rattle.call_log.specs.declared.kinds.Layout.{Layout}
 use Rattle.call_log.specs.Grammar.{Frame, header, spell, frame_no}
+use Rattle.text_words.specs.Words.{AreBytes}
 use Rattle.log_text.specs.LogText.{number_field, bytes_field, fields, bare_line, line, first_line, IsRecord}
-
--- Each number is a byte.
-abbrev pub AreBytes : List ℕ → Type 0
-AreBytes xs = AllByRecursion (λ b. b < 256) xs
-
--- No byte of these is c.
-abbrev pub Lacks : ℕ → List ℕ → Type 0
-Lacks c [] = ⊤
-Lacks c (x ∷ xs) = (x ≢ c) × Lacks c xs
-
--- Nothing is here, or c stands in front.
-abbrev pub StopsAt : ℕ → List ℕ → Type 0
-StopsAt c [] = ⊤
-StopsAt c (x ∷ xs) = x ≡ c
-
--- The bytes before the first c, and those from it on.
-pub record Cut (c : ℕ) (whole front behind : List ℕ) : Type 0 where
-  pub spelled : whole ≡ front ++ behind
-  pub lacks : Lacks c front
-  pub stops : StopsAt c behind
-
--- A word begins with no sign, and with a zero only where it is the zero.
-abbrev pub plain : List ℕ → Bool
-plain [] = true
-plain (x ∷ xs) = not (x == 43) && (not (x == 48) || length xs == 0)
-
--- No byte is a capital letter.
-abbrev pub lower : List ℕ → Bool
-lower [] = true
-lower (x ∷ xs) = not (nat_le 65 x && nat_le x 90) && lower xs
 
 -- P holds where a step stopped at bad text.
 abbrev pub WhenBad : Stop → Type 0 → Type 0
@@ -60,34 +30,27 @@ pub record ReadsBytes (text old new : List ℕ) : Type 0 where
   pub spelled : text ≡ bytes_field bytes
   pub put : new ≡ old ++ bytes
 
--- How long a body is that has these fields.
-abbrev pub fits_shape : Shape → List ℕ → Bool
-fits_shape (Numbers n) body = length body == 4 * n
-fits_shape (Bytes n) body = nat_le (4 * n + 4) (length body) && (length body == 4 * n + 4 + word n body)
-fits_shape Tokens body = nat_le 4 (length body) && (length body % 4 == 0)
-fits_shape Body body = true
-
 -- A body that has these fields.
-pub record HasShape (shape : Shape) (body : List ℕ) : Type 0 where
-  pub fits : IsTrue (fits_shape shape body)
+pub record HasLayout (layout : Layout) (body : List ℕ) : Type 0 where
+  pub fits : IsTrue (fits_layout layout body)
   pub bytes : AreBytes body
   pub small : length body < 2 ^ 32
 
 -- The fields of a body are all of a text.
-pub record ReadsBody (shape : Shape) (text body : List ℕ) : Type 0 where
-  pub shaped : HasShape shape body
-  pub spelled : text ≡ fields shape body
+pub record ReadsBody (layout : Layout) (text body : List ℕ) : Type 0 where
+  pub shaped : HasLayout layout body
+  pub spelled : text ≡ fields layout body
 
 -- The fields of a body are all of a text, and the body was put.
-pub record PutsBody (shape : Shape) (text old new : List ℕ) : Type 0 where
+pub record PutsBody (layout : Layout) (text old new : List ℕ) : Type 0 where
   pub body : List ℕ
-  pub reads : ReadsBody shape text body
+  pub reads : ReadsBody layout text body
   pub put : new ≡ old ++ body
 
 -- The fields of a kind are all of a text, and the record of the kind with their body was put.
-pub record PutsRecord (kind context : ℕ) (shape : Shape) (text old new : List ℕ) : Type 0 where
+pub record PutsRecord (kind context : ℕ) (layout : Layout) (text old new : List ℕ) : Type 0 where
   pub body : List ℕ
-  pub reads : ReadsBody shape text body
+  pub reads : ReadsBody layout text body
   pub put : new ≡ old ++ spell (record { kind = kind; context = context; body = body })
 
 -- A line without its line feed is that of a record, and the record was put behind a log.

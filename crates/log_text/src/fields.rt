@@ -4,33 +4,34 @@ ghost use Rattle.hex.specs.Hex.{decode_sized, encode_lower};
 ghost use Rattle.byteorder.specs.Endian.{little_bytes};
 ghost use Rattle.call_log.specs.Put.{AreWords};
 ghost use Rattle.log_text.specs.LogText.{number_field, bytes_field, fields};
-ghost use Rattle.log_text.specs.Reading.{AreBytes, HasShape, PutsBody, ReadsBytes, ReadsNumbers, StopsAt, WhenBad, lower};
+ghost use Rattle.log_text.specs.Reading.{HasLayout, PutsBody, ReadsBytes, ReadsNumbers, WhenBad};
+ghost use Rattle.text_words.specs.Words.{AreBytes, StopsAt, lower};
 
-use crate::form::Shape;
 use crate::text_end::Stop;
-use crate::word::{behind, cut, number};
 use byteorder::{ByteOrder, LittleEndian};
+use call_log::Layout;
+use text_words::{behind, cut, is_lower, read_u32};
 
 /// Reads a line's fields and puts the body that they spell. Anything may stand behind `log` where they spell none.
-pub(crate) fn read_fields(shape: Shape, text: &[u8], log: &mut Vec<u8>) -> Result<(), Stop>
+pub(crate) fn read_fields(layout: Layout, text: &[u8], log: &mut Vec<u8>) -> Result<(), Stop>
     requires stops { StopsAt 32 text.now }
     requires small { length text.now < 2 ^ 32 }
-    ensures found { OnOk result (PutsBody shape text.now log.old.items log.new.items) }
-    ensures bad { IfErr result (λ e. WhenBad e ((b : List ℕ) → HasShape shape b → text.now ≡ fields shape b → ⊥)) }
+    ensures found { OnOk result (PutsBody layout text.now log.old.items log.new.items) }
+    ensures bad { IfErr result (λ e. WhenBad e ((b : List ℕ) → HasLayout layout b → text.now ≡ fields layout b → ⊥)) }
 {
-    match shape {
-        Shape::Numbers(n) => read_all_numbers(n as usize, text, log),
-        Shape::Bytes(n) => read_counted(n as usize, text, log),
-        Shape::Tokens => read_tokens(text, log),
-        Shape::Body => read_bytes(text, log),
+    match layout {
+        Layout::Words(n) => read_all_numbers(n as usize, text, log),
+        Layout::Counted(n) => read_counted(n as usize, text, log),
+        Layout::Tokens => read_tokens(text, log),
+        Layout::Free => read_bytes(text, log),
     }
 }
 
 fn read_all_numbers(n: usize, text: &[u8], log: &mut Vec<u8>) -> Result<(), Stop>
     requires stops { StopsAt 32 text.now }
     requires few { n < 256 }
-    ensures found { OnOk result (PutsBody (Shape.Numbers n) text.now log.old.items log.new.items) }
-    ensures bad { IfErr result (λ e. WhenBad e ((b : List ℕ) → HasShape (Shape.Numbers n) b → text.now ≡ fields (Shape.Numbers n) b → ⊥)) }
+    ensures found { OnOk result (PutsBody (Layout.Words n) text.now log.old.items log.new.items) }
+    ensures bad { IfErr result (λ e. WhenBad e ((b : List ℕ) → HasLayout (Layout.Words n) b → text.now ≡ fields (Layout.Words n) b → ⊥)) }
 {
     let rest = read_numbers(n, text, log)?;
     if !rest.is_empty() {
@@ -43,8 +44,8 @@ fn read_counted(n: usize, text: &[u8], log: &mut Vec<u8>) -> Result<(), Stop>
     requires stops { StopsAt 32 text.now }
     requires few { n < 256 }
     requires small { length text.now < 2 ^ 32 }
-    ensures found { OnOk result (PutsBody (Shape.Bytes n) text.now log.old.items log.new.items) }
-    ensures bad { IfErr result (λ e. WhenBad e ((b : List ℕ) → HasShape (Shape.Bytes n) b → text.now ≡ fields (Shape.Bytes n) b → ⊥)) }
+    ensures found { OnOk result (PutsBody (Layout.Counted n) text.now log.old.items log.new.items) }
+    ensures bad { IfErr result (λ e. WhenBad e ((b : List ℕ) → HasLayout (Layout.Counted n) b → text.now ≡ fields (Layout.Counted n) b → ⊥)) }
 {
     let rest = read_numbers(n, text, log)?;
     put_word(log, byte_count(rest))?;
@@ -54,8 +55,8 @@ fn read_counted(n: usize, text: &[u8], log: &mut Vec<u8>) -> Result<(), Stop>
 fn read_tokens(text: &[u8], log: &mut Vec<u8>) -> Result<(), Stop>
     requires stops { StopsAt 32 text.now }
     requires small { length text.now < 2 ^ 32 }
-    ensures found { OnOk result (PutsBody Shape.Tokens text.now log.old.items log.new.items) }
-    ensures bad { IfErr result (λ e. WhenBad e ((b : List ℕ) → HasShape Shape.Tokens b → text.now ≡ fields Shape.Tokens b → ⊥)) }
+    ensures found { OnOk result (PutsBody Layout.Tokens text.now log.old.items log.new.items) }
+    ensures bad { IfErr result (λ e. WhenBad e ((b : List ℕ) → HasLayout Layout.Tokens b → text.now ≡ fields Layout.Tokens b → ⊥)) }
 {
     let rest = read_numbers(1, text, log)?;
     if byte_count(rest) % 4 != 0 {
@@ -86,7 +87,7 @@ fn read_number<'a>(text: &'a [u8], log: &mut Vec<u8>) -> Result<&'a [u8], Stop>
         return Err(Stop::Bad);
     };
     let (word, rest) = cut(fields, b' ');
-    let Some(number) = number(word) else {
+    let Some(number) = read_u32(word) else {
         return Err(Stop::Bad);
     };
     put_word(log, number)?;
@@ -156,16 +157,4 @@ fn decode_from(from: usize, word: &[u8], bytes: &mut [u8]) -> bool
         Ok(()) => true,
         Err(_) => false,
     }
-}
-
-// Whether no byte is a capital letter, which decoding would take.
-fn is_lower(word: &[u8]) -> bool
-    ensures { result ≡ lower word.now }
-{
-    'bytes: for byte in word {
-        if byte.is_ascii_uppercase() {
-            return false;
-        }
-    }
-    true
 }

@@ -2,11 +2,9 @@
 #![tactic(auto)]
 
 mod fields;
-mod form;
 mod laws;
 mod read;
 mod text_end;
-mod word;
 mod write;
 
 pub use laws::one_spelling;

@@ -1,13 +1,13 @@
 ghost use Rattle.std.specs.Prelude.{◌≡◌, ◌<◌, ◌≤◌, ◌+◌, ◌*◌, ◌^◌, ℕ, List, ◌++◌, length, drop, OnOk, IfOk, IfErr, IsTrue};
 ghost use Rattle.std.specs.String.{string_bytes};
+ghost use Rattle.call_log.specs.Body.{fits_layout};
 ghost use Rattle.call_log.specs.View.{frame_view};
 ghost use Rattle.hex.specs.Hex.{encode_lower};
 ghost use Rattle.log_text.specs.LogText.{text_of, line, fields, number_field, number_fields, bytes_field};
-ghost use Rattle.log_text.specs.Reading.{fits_shape, call_text};
+ghost use Rattle.log_text.specs.Reading.{call_text};
 
-use crate::form::{Shape, form_of};
 use byteorder::{ByteOrder, LittleEndian};
-use call_log::{Item, Log};
+use call_log::{Item, Layout, Log, kind_numbered};
 use std::alloc::{AllocError, Global};
 
 // How many bytes are written as hexadecimal at a time.
@@ -41,30 +41,30 @@ fn push_call(text: &mut String, log: &Log<'_>, n: u32) -> Result<(), AllocError>
 fn push_line(text: &mut String, item: Item<'_>) -> Result<(), AllocError>
     ensures { OnOk result (string_bytes text.new ≡ string_bytes text.old ++ line (frame_view item.entry)) }
 {
-    let Some(form) = form_of(item.kind) else {
+    let Some(kind) = kind_numbered(item.kind) else {
         unreachable!()
     };
-    write!(text, "{} {}", item.context, form.name)?;
-    push_fields(text, form.shape, item.body)?;
+    write!(text, "{} {}", item.context, kind.name)?;
+    push_fields(text, kind.layout, item.body)?;
     text.push_str("\n")
 }
 
 // Appends the fields of a body.
-fn push_fields(text: &mut String, shape: Shape, body: &[u8]) -> Result<(), AllocError>
-    requires { IsTrue (fits_shape shape body.now) }
-    ensures { OnOk result (string_bytes text.new ≡ string_bytes text.old ++ fields shape body.now) }
+fn push_fields(text: &mut String, layout: Layout, body: &[u8]) -> Result<(), AllocError>
+    requires { IsTrue (fits_layout layout body.now) }
+    ensures { OnOk result (string_bytes text.new ≡ string_bytes text.old ++ fields layout body.now) }
 {
-    match shape {
-        Shape::Numbers(n) => push_numbers(text, n as usize, body),
-        Shape::Bytes(n) => {
+    match layout {
+        Layout::Words(n) => push_numbers(text, n as usize, body),
+        Layout::Counted(n) => {
             push_numbers(text, n as usize, body)?;
             push_bytes(text, tail(body, 4 * n as usize + 4))
         }
-        Shape::Tokens => {
+        Layout::Tokens => {
             push_numbers(text, 1, body)?;
             push_bytes(text, tail(body, 4))
         }
-        Shape::Body => push_bytes(text, body),
+        Layout::Free => push_bytes(text, body),
     }
 }
 

@@ -2,7 +2,7 @@
 
 ghost use Rattle.std.specs.Prelude.{◌≡◌, true, IfOk};
 ghost use Rattle.shader_model.specs.Dispatch.{is_allowed};
-ghost use Rattle.spirv_words.specs.Meaning.ModuleDispatch.{IsDefined};
+ghost use Rattle.spirv_model.specs.Meaning.ModuleDispatch.{IsDefined};
 
 use crate::samples::{COUNTER, MINIMAL};
 use shader_slots::{Slots, Whole};

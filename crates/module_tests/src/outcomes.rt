@@ -1,7 +1,7 @@
 ghost use Rattle.std.specs.Prelude.{◌≡◌, false, true, Some, None};
-ghost use Rattle.spirv_words.specs.declared.code.UnaryCode.TheVariants as unary;
-ghost use Rattle.spirv_words.specs.declared.code.BinaryCode.TheVariants as binary;
-ghost use Rattle.spirv_words.specs.Meaning.Values.{Word, Truth, Halves, of_one, of_two};
+ghost use Rattle.spirv_model.specs.declared.code.UnaryCode.TheVariants as unary;
+ghost use Rattle.spirv_model.specs.declared.code.BinaryCode.TheVariants as binary;
+ghost use Rattle.spirv_model.specs.Meaning.Values.{Word, Truth, Halves, of_one, of_two};
 
 /// What instructions give where no emitted module shows it: those that aren't emitted for two words, both halves of
 /// products, and what is undefined, so that a module with it can't be dispatched. Worked out by hand.

@@ -1,6 +1,7 @@
 // Which words are a module, and which is the first bad one.
 
-use spirv_words::{Builder, Module, ModuleEnd, ModuleFault, ModuleKind, read_module};
+use spirv_model::{ModuleFault, ModuleKind};
+use spirv_words::{Builder, Module, ModuleEnd, read_module};
 use std::alloc::Global;
 use std::process::Abort;
 use std::test::Fail;

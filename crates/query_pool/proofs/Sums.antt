@@ -1,5 +1,5 @@
 -- Sums over commands, as one more is counted.
-use Rattle.std.proofs.Common.{◌≡◌, ℕ, ◌+◌, ◌<◌, ◌≤◌, inl, inr, Bool, true, false, cond, nat_le, nat_lt, ◌&&◌, List, [], ◌∷◌, ◌++◌, Some, refl, sym, ap, ◌∙◌, sum_by, arith}
+use Rattle.std.proofs.Common.{◌≡◌, ℕ, ◌+◌, ◌<◌, ◌≤◌, inl, inr, Bool, true, false, cond, nat_le, nat_lt, ◌&&◌, List, [], ◌∷◌, Some, refl, sym, ap, ◌∙◌, sum_by, arith}
 use Rattle.std.specs.BTreeMap.Range.{entries_between, range_contains}
 use Rattle.std.specs.declared.ops.Bound.TheVariants.{Included, Excluded}
 use Rattle.std.specs.List.Sorted.{IsStrictlySortedBy}
@@ -14,46 +14,32 @@ use Rattle.std.proofs.lemmas.Bool.Decides.{nat_tests}
 use Rattle.std.proofs.lemmas.Map.{lookup-none}
 use Rattle.std.proofs.lemmas.Map.Keys.{sorted_tail}
 use Rattle.std.proofs.lemmas.Map.Entries.{none_below_head}
-use Rattle.std.proofs.lemmas.List.Sums.{sum_by-cons, sum_by_push, sum_by-le-sum_by}
-use Rattle.query_pool.specs.declared.queries.Count.{Count}
-use Rattle.query_pool.specs.Asked.{part_between, invocations_between}
-use Rattle.query_pool.specs.ByCommand.{ran_if, ran_within, IsByCommand}
-
-cond_le : (b : Bool) (n : ℕ) → cond b n 0 ≤ n
-cond_le true n = omega arith
-cond_le false n = omega arith
-
-pub between_le_all : (from to : ℕ) (counts : List Count) → invocations_between from to counts ≤ sum_by (λ (c : Count). c.invocations) counts
-between_le_all from to counts =
-    sum_by-le-sum_by (part_between from to) (λ (c : Count). c.invocations) counts (λ c. cond_le (nat_le from c.command && nat_lt c.command to) c.invocations)
-
--- what a command ran before
-abbrev pub ran_before : ℕ → List (ℕ × ℕ) → ℕ
-ran_before k es = unwrap_or (lookup (is_at (nat_cmp k)) es) 0
+use Rattle.std.proofs.lemmas.List.Sums.{sum_by-cons}
+use Rattle.query_pool.specs.Asked.{counted_of, counted_more, part_between, invocations_between, invocations_of}
 
 -- ---- an entry is put in
 
 -- a measure of entries that is 0 where nothing was run
 module _ (f : ℕ × ℕ → ℕ) (zero_at : (k : ℕ) → f (k, 0) ≡ 0) where
   put_less : (e : ℕ × ℕ) (es : List (ℕ × ℕ)) (k v : ℕ) → IsStrictlySortedBy nat_cmp (keys_of (e ∷ es)) → nat_cmp k e.0 ≡ Less
-      → sum_by f (insert_entry nat_cmp (e ∷ es) k v) + f (k, ran_before k (e ∷ es)) ≡ sum_by f (e ∷ es) + f (k, v)
+      → sum_by f (insert_entry nat_cmp (e ∷ es) k v) + f (k, counted_of k (e ∷ es)) ≡ sum_by f (e ∷ es) + f (k, v)
   put_less e es k v sorted less =
       let none = lookup-none (is_at (nat_cmp k)) (e ∷ es) (none_below_head nat_cmp_total k e es sorted less) in
       let put = ap (λ o. sum_by f (match_ordering o ((k, v) ∷ e ∷ es) ((e.0, v) ∷ es) (e ∷ insert_entry nat_cmp es k v))) less ∙ sum_by-cons f (k, v) (e ∷ es) in
-      let had : f (k, ran_before k (e ∷ es)) ≡ 0 = ap (λ o. f (k, unwrap_or o 0)) none ∙ zero_at k in
+      let had : f (k, counted_of k (e ∷ es)) ≡ 0 = ap (λ o. f (k, unwrap_or o 0)) none ∙ zero_at k in
       omega (arith, put, had)
 
   put_equal : (e : ℕ × ℕ) (es : List (ℕ × ℕ)) (k v : ℕ) → nat_cmp k e.0 ≡ Equal → k ≡ e.0
-      → sum_by f (insert_entry nat_cmp (e ∷ es) k v) + f (k, ran_before k (e ∷ es)) ≡ sum_by f (e ∷ es) + f (k, v)
+      → sum_by f (insert_entry nat_cmp (e ∷ es) k v) + f (k, counted_of k (e ∷ es)) ≡ sum_by f (e ∷ es) + f (k, v)
   put_equal e es k v equal same =
       let put = ap (λ o. sum_by f (match_ordering o ((k, v) ∷ e ∷ es) ((e.0, v) ∷ es) (e ∷ insert_entry nat_cmp es k v))) equal ∙ sum_by-cons f (e.0, v) es in
       let found : is_at (nat_cmp k) e.0 ≡ true = grind (arith, nat_tests) in
-      let had : f (k, ran_before k (e ∷ es)) ≡ f e = ap (λ o. f (k, unwrap_or o 0)) (cond-true (is_at (nat_cmp k) e.0) (Some e.1) (lookup (is_at (nat_cmp k)) es) found) ∙ ap (λ q. f (q, e.1)) same in
+      let had : f (k, counted_of k (e ∷ es)) ≡ f e = ap (λ o. f (k, unwrap_or o 0)) (cond-true (is_at (nat_cmp k) e.0) (Some e.1) (lookup (is_at (nat_cmp k)) es) found) ∙ ap (λ q. f (q, e.1)) same in
       let old = sum_by-cons f e es in
       let key : f (e.0, v) ≡ f (k, v) = ap (λ q. f (q, v)) (sym same) in
       omega (arith, put, had, old, key)
 
-  pub put_sum : (es : List (ℕ × ℕ)) (k v : ℕ) → IsStrictlySortedBy nat_cmp (keys_of es) → sum_by f (insert_entry nat_cmp es k v) + f (k, ran_before k es) ≡ sum_by f es + f (k, v)
+  pub put_sum : (es : List (ℕ × ℕ)) (k v : ℕ) → IsStrictlySortedBy nat_cmp (keys_of es) → sum_by f (insert_entry nat_cmp es k v) + f (k, counted_of k es) ≡ sum_by f es + f (k, v)
   put_sum [] k v sorted = omega (arith, zero_at k)
   put_sum (e ∷ es) k v sorted = elim (cases_order k e.0) [
     | inl same ↦ put_equal e es k v (equal same) same
@@ -62,7 +48,7 @@ module _ (f : ℕ × ℕ → ℕ) (zero_at : (k : ℕ) → f (k, 0) ≡ 0) where
         let more = greater gt in
         let put = ap (λ o. sum_by f (match_ordering o ((k, v) ∷ e ∷ es) ((e.0, v) ∷ es) (e ∷ insert_entry nat_cmp es k v))) more ∙ sum_by-cons f e (insert_entry nat_cmp es k v) in
         let past : is_at (nat_cmp k) e.0 ≡ false = grind (arith, nat_tests) in
-        let had : f (k, ran_before k (e ∷ es)) ≡ f (k, ran_before k es) = ap (λ o. f (k, unwrap_or o 0)) (cond-false (is_at (nat_cmp k) e.0) (Some e.1) (lookup (is_at (nat_cmp k)) es) past) in
+        let had : f (k, counted_of k (e ∷ es)) ≡ f (k, counted_of k es) = ap (λ o. f (k, unwrap_or o 0)) (cond-false (is_at (nat_cmp k) e.0) (Some e.1) (lookup (is_at (nat_cmp k)) es) past) in
         let rest = put_sum es k v (sorted_tail nat_cmp e.0 (keys_of es) sorted) in
         let old = sum_by-cons f e es in
         omega (arith, put, had, rest, old)
@@ -85,58 +71,55 @@ if_both : (b : Bool) (m n : ℕ) → cond b (m + n) 0 ≡ cond b m 0 + cond b n 
 if_both true m n = refl
 if_both false m n = refl
 
--- one more count, added to what the command ran before
-pub counted_more : (counts : List Count) (es : List (ℕ × ℕ)) (k n : ℕ) → IsStrictlySortedBy nat_cmp (keys_of es) → IsByCommand counts es
-    → let c : Count = record { command = k; invocations = n } in IsByCommand (counts ++ c ∷ []) (insert_entry nat_cmp es k (ran_before k es + n))
-counted_more counts es k n sorted by = record {
-  between = λ from to.
-      let c : Count = record { command = k; invocations = n } in
-      let before = ran_before k es in
-      let put = put_sum (ran_if from to) (λ k. if_none (nat_le from k && nat_lt k to)) es k (before + n) sorted in
-      let both = if_both (nat_le from k && nat_lt k to) before n in
-      let push = sum_by_push (part_between from to) counts c in
-      omega (arith, put, both, push, by.between from to);
-  all =
-      let c : Count = record { command = k; invocations = n } in
-      let put = put_sum (λ (e : ℕ × ℕ). e.1) (λ k. refl) es k (ran_before k es + n) sorted in
-      let push = sum_by_push (λ (c : Count). c.invocations) counts c in
-      omega (arith, put, push, by.all);
-}
+-- a count more, in what lies between two numbers
+pub between_more : (es : List (ℕ × ℕ)) (k n : ℕ) → IsStrictlySortedBy nat_cmp (keys_of es) → (from to : ℕ)
+    → invocations_between from to (counted_more es k n) ≡ invocations_between from to es + part_between from to (k, n)
+between_more es k n sorted from to =
+    let before = counted_of k es in
+    let put = put_sum (part_between from to) (λ k. if_none (nat_le from k && nat_lt k to)) es k (before + n) sorted in
+    let both = if_both (nat_le from k && nat_lt k to) before n in
+    omega (arith, put, both)
+
+-- a count more, in all
+pub all_more : (es : List (ℕ × ℕ)) (k n : ℕ) → IsStrictlySortedBy nat_cmp (keys_of es) → invocations_of (counted_more es k n) ≡ invocations_of es + n
+all_more es k n sorted =
+    let put = put_sum (λ (e : ℕ × ℕ). e.1) (λ k. refl) es k (counted_of k es + n) sorted in
+    omega (arith, put)
 
 -- what a command ran is at most what all ran
-pub before_le : (es : List (ℕ × ℕ)) (k : ℕ) → ran_before k es ≤ sum_by (λ (e : ℕ × ℕ). e.1) es
+pub before_le : (es : List (ℕ × ℕ)) (k : ℕ) → counted_of k es ≤ sum_by (λ (e : ℕ × ℕ). e.1) es
 before_le [] k = omega arith
 before_le (e ∷ es) k =
     let old = sum_by-cons (λ (e : ℕ × ℕ). e.1) e es in
     let rest = before_le es k in
     by (is_at (nat_cmp k) e.0) old rest
   where
-    by : (b : Bool) → sum_by (λ (e : ℕ × ℕ). e.1) (e ∷ es) ≡ e.1 + sum_by (λ (e : ℕ × ℕ). e.1) es → ran_before k es ≤ sum_by (λ (e : ℕ × ℕ). e.1) es → unwrap_or (cond b (Some e.1) (lookup (is_at (nat_cmp k)) es)) 0 ≤ sum_by (λ (e : ℕ × ℕ). e.1) (e ∷ es)
+    by : (b : Bool) → sum_by (λ (e : ℕ × ℕ). e.1) (e ∷ es) ≡ e.1 + sum_by (λ (e : ℕ × ℕ). e.1) es → counted_of k es ≤ sum_by (λ (e : ℕ × ℕ). e.1) es → unwrap_or (cond b (Some e.1) (lookup (is_at (nat_cmp k)) es)) 0 ≤ sum_by (λ (e : ℕ × ℕ). e.1) (e ∷ es)
     by true old rest = omega arith
     by false old rest = omega arith
 
 -- the sum over the entries between two numbers
-pub between_is : (from to : ℕ) (es : List (ℕ × ℕ)) → sum_by (λ (e : ℕ × ℕ). e.1) (entries_between nat_cmp (Included from) (Excluded to) es) ≡ ran_within from to es
+pub between_is : (from to : ℕ) (es : List (ℕ × ℕ)) → sum_by (λ (e : ℕ × ℕ). e.1) (entries_between nat_cmp (Included from) (Excluded to) es) ≡ invocations_between from to es
 between_is from to [] = refl
 between_is from to (e ∷ es) =
-    by (range_contains nat_cmp (Included from) (Excluded to) e.0) (nat_le from e.0 && nat_lt e.0 to) alike (between_is from to es) ∙ sym (sum_by-cons (ran_if from to) e es)
+    by (range_contains nat_cmp (Included from) (Excluded to) e.0) (nat_le from e.0 && nat_lt e.0 to) alike (between_is from to es) ∙ sym (sum_by-cons (part_between from to) e es)
   where
     alike : range_contains nat_cmp (Included from) (Excluded to) e.0 ≡ (nat_le from e.0 && nat_lt e.0 to)
     alike = grind (arith, nat_tests)
 
-    by : (b c : Bool) → b ≡ c → sum_by (λ (e : ℕ × ℕ). e.1) (entries_between nat_cmp (Included from) (Excluded to) es) ≡ ran_within from to es
-        → sum_by (λ (e : ℕ × ℕ). e.1) (cond b (e ∷ entries_between nat_cmp (Included from) (Excluded to) es) (entries_between nat_cmp (Included from) (Excluded to) es)) ≡ cond c e.1 0 + ran_within from to es
+    by : (b c : Bool) → b ≡ c → sum_by (λ (e : ℕ × ℕ). e.1) (entries_between nat_cmp (Included from) (Excluded to) es) ≡ invocations_between from to es
+        → sum_by (λ (e : ℕ × ℕ). e.1) (cond b (e ∷ entries_between nat_cmp (Included from) (Excluded to) es) (entries_between nat_cmp (Included from) (Excluded to) es)) ≡ cond c e.1 0 + invocations_between from to es
     by true true same rest = sum_by-cons (λ (e : ℕ × ℕ). e.1) e (entries_between nat_cmp (Included from) (Excluded to) es) ∙ ap (λ n. e.1 + n) rest
     by true false same rest = absurd (cc same)
     by false true same rest = absurd (cc same)
     by false false same rest = omega (arith, rest)
 
 -- where no number lies between, none ran
-pub within_none : (from to : ℕ) (es : List (ℕ × ℕ)) → to ≤ from → ran_within from to es ≡ 0
+pub within_none : (from to : ℕ) (es : List (ℕ × ℕ)) → to ≤ from → invocations_between from to es ≡ 0
 within_none from to [] le = refl
 within_none from to (e ∷ es) le =
     let out : (nat_le from e.0 && nat_lt e.0 to) ≡ false = grind (arith, nat_tests) in
-    let head : ran_if from to e ≡ 0 = cond-false (nat_le from e.0 && nat_lt e.0 to) e.1 0 out in
-    let all = sum_by-cons (ran_if from to) e es in
+    let head : part_between from to e ≡ 0 = cond-false (nat_le from e.0 && nat_lt e.0 to) e.1 0 out in
+    let all = sum_by-cons (part_between from to) e es in
     let rest = within_none from to es le in
     omega (arith, head, all, rest)

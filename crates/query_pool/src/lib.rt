@@ -3,4 +3,4 @@
 
 mod queries;
 
-pub use queries::{Begun, Count, Ended, Queries};
+pub use queries::{Begun, Ended, Queries};

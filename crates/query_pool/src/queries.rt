@@ -1,9 +1,8 @@
-ghost use Rattle.std.specs.Prelude.{◌≡◌, ◌+◌, ◌<◌, ◌≤◌, ◌^◌, ◌++◌, ◌∷◌, [], ◌↔◌, All, IsTrue, None, OnOk, OnErr, MatchOption, sum_by};
+ghost use Rattle.std.specs.Prelude.{◌≡◌, ℕ, ◌+◌, ◌<◌, ◌≤◌, ◌^◌, [], ◌↔◌, All, IsTrue, None, OnOk, OnErr, MatchOption, sum_by};
 ghost use Rattle.std.specs.BTreeMap.Range.{entries_between};
 ghost use Rattle.std.specs.Ordering.{nat_cmp};
 ghost use Rattle.std.specs.declared.ops.Bound.TheVariants.{Included, Excluded};
-ghost use Rattle.query_pool.specs.Asked.{Marks, Answered, place_of};
-ghost use Rattle.query_pool.specs.ByCommand.{ran_within};
+ghost use Rattle.query_pool.specs.Asked.{Marks, Answered, counted_more, invocations_between, invocations_of, part_between, place_of};
 
 use dx_types::CallNo;
 use std::alloc::{AllocError, Global};
@@ -27,34 +26,25 @@ pub struct Ended {
     pub to: u64,
 }
 
-/// How many invocations a command ran.
-#[derive(Clone, Copy, Debug)]
-pub struct Count {
-    pub command: u64,
-    pub invocations: u64,
-}
-
-/// The queries that are begun, and those that are ended and not answered, in order.
+/// The queries that are begun, those that are ended and not answered, in order, and how many invocations each command ran that
+/// was counted: an answer adds up the commands between its marks alone.
 #[derive(Drop)]
 pub struct Queries {
     begun: Vec<Begun>,
     ended: VecDeque<Ended>,
-    counts: Vec<Count>,
-    // the invocations of each command that was counted, so that an answer adds up the commands between its marks alone
     ran: BTreeMap<u64, u64>,
 }
 
 impl Model for Queries {
-    ghost use Rattle.std.specs.Prelude.{◌<◌, ◌^◌, sum_by};
-    ghost use Rattle.query_pool.specs.Asked.{Asked};
-    ghost use Rattle.query_pool.specs.ByCommand.{IsByCommand};
+    ghost use Rattle.std.specs.Prelude.{◌<◌, ◌^◌};
+    ghost use Rattle.query_pool.specs.Asked.{Asked, invocations_of};
     ghost use Rattle.query_pool.specs.Rising.{RisesBy};
 
     ghost Value = { Asked };
 
-    ghost view = { λ q. record { begun = q.begun.items; ended = q.ended.items; counts = q.counts.items } };
+    ghost view = { λ q. record { begun = q.begun.items; ended = q.ended.items; counts = q.ran.entries } };
 
-    ghost invariant = { λ q. RisesBy (λ e. e.call) q.ended.items × (sum_by (λ c. c.invocations) q.counts.items < 2 ^ 63) × IsByCommand q.counts.items q.ran.entries };
+    ghost invariant = { λ q. RisesBy (λ e. e.call) q.ended.items × (invocations_of q.ran.entries < 2 ^ 63) };
 }
 
 impl Queries {
@@ -65,7 +55,6 @@ impl Queries {
         Queries {
             begun: Vec::new(alloc),
             ended: VecDeque::new(alloc),
-            counts: Vec::new(alloc),
             ran: BTreeMap::new(alloc),
         }
     }
@@ -98,20 +87,18 @@ impl Queries {
         Ok(())
     }
 
-    /// Notes how many invocations a command ran. All counts together stay below 2^63. A lack of memory changes
+    /// Notes that a command ran so many invocations more. All counts together stay below 2^63. A lack of memory changes
     /// nothing.
     pub fn count(&mut self, command: u64, invocations: u64) -> Result<(), AllocError>
-        requires { sum_by (λ c. c.invocations) self.old.counts + invocations < 2 ^ 63 }
-        ensures ok { OnOk result (self.new ≡ record self.old { counts = self.old.counts ++ record { command = command; invocations = invocations } ∷ [] }) }
+        requires { invocations_of self.old.counts + invocations < 2 ^ 63 }
+        ensures ok { OnOk result (self.new ≡ record self.old { counts = counted_more self.old.counts command invocations }) }
+        ensures between { OnOk result ((from to : ℕ) → invocations_between from to self.new.counts
+            ≡ invocations_between from to self.old.counts + part_between from to (command, invocations)) }
+        ensures all { OnOk result (invocations_of self.new.counts ≡ invocations_of self.old.counts + invocations) }
         ensures err { OnErr result (self.new ≡ self.old) }
     {
-        self.counts.reserve(1)?;
         let before = self.ran.get(&command).copied().unwrap_or(0);
         self.ran.insert(command, before + invocations)?;
-        self.counts.push_reserved(Count {
-            command,
-            invocations,
-        });
         Ok(())
     }
 
@@ -142,8 +129,8 @@ fn find_begun(begun: &[Begun], query: u32) -> Option<usize>
 }
 
 fn counted_between(ran: &BTreeMap<u64, u64>, from: u64, to: u64) -> u64
-    requires { sum_by (λ e. e.1) ran.now.entries < 2 ^ 63 }
-    ensures { result ≡ ran_within from to ran.now.entries }
+    requires { invocations_of ran.now.entries < 2 ^ 63 }
+    ensures { result ≡ invocations_between from to ran.now.entries }
 {
     if to <= from {
         return 0;
@@ -153,7 +140,7 @@ fn counted_between(ran: &BTreeMap<u64, u64>, from: u64, to: u64) -> u64
 
 fn ran_between(ran: &BTreeMap<u64, u64>, from: u64, to: u64) -> u64
     requires forward { from ≤ to }
-    requires fits { sum_by (λ e. e.1) ran.now.entries < 2 ^ 63 }
+    requires fits { invocations_of ran.now.entries < 2 ^ 63 }
     ensures { result ≡ sum_by (λ e. e.1) (entries_between nat_cmp (Included from) (Excluded to) ran.now.entries) }
 {
     ran.range(from..to)

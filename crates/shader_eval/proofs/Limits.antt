@@ -5,7 +5,8 @@ use Rattle.std.proofs.lemmas.Bool.Decides.{nat_tests}
 use Rattle.shader_model.specs.declared.ids.Ids.{Ids}
 use Rattle.shader_model.specs.Dispatch.{volume}
 use Rattle.shader_model.specs.Faults.{is_group, is_size}
-use Rattle.shader_eval.specs.Threads.{IsBelow, AllBelow, IsThread}
+use Rattle.shader_model.specs.PlacesLeft.{IsBelow}
+use Rattle.shader_eval.specs.Threads.{AllBelow, IsThread}
 
 three_sizes : (x y z : ℕ) → is_size 1024 x && is_size 1024 y && is_size 64 z && nat_le (x * y * z) 1024 ≡ true → (x < 1025) × (y < 1025) × (z < 1025)
 three_sizes x y z h = (grind (arith, nat_tests), grind (arith, nat_tests), grind (arith, nat_tests))

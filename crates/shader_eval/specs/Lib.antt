@@ -4,4 +4,3 @@ pub mod Actions
 pub mod Frames
 pub mod Lanes
 pub mod Threads
-pub mod Walks

@@ -2,10 +2,6 @@
 use Rattle.std.specs.Prelude.{ℕ, ◌<◌, List, slice_index}
 use Rattle.shader_model.specs.declared.ids.Ids.{Ids}
 
--- each of x, y and z is below that of a size
-abbrev pub IsBelow : (place size : List ℕ) → Type 0
-IsBelow place size = (c : ℕ) → c < 3 → slice_index place c < slice_index size c
-
 -- each of x, y and z is below a limit
 abbrev pub AllBelow : (limit : ℕ) → List ℕ → Type 0
 AllBelow limit place = (c : ℕ) → c < 3 → slice_index place c < limit

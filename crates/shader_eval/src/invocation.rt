@@ -5,7 +5,8 @@ ghost use Rattle.shader_model.specs.Good.{IsGood};
 ghost use Rattle.shader_model.specs.Shader.{program_of};
 ghost use Rattle.shader_model.specs.Invocation.{invoked};
 ghost use Rattle.shader_eval.specs.Frames.{IsFor};
-ghost use Rattle.shader_eval.specs.Threads.{IsBelow, AllBelow};
+ghost use Rattle.shader_model.specs.PlacesLeft.{IsBelow};
+ghost use Rattle.shader_eval.specs.Threads.{AllBelow};
 ghost use Rattle.dx_types.specs.declared.limits.TheConstants.{MAX_GROUPS};
 
 use crate::frame::Frame;

@@ -10,4 +10,5 @@ pub mod Lengths
 pub mod Declaring
 pub mod Depth
 pub mod Goodness
+pub mod PlacesInOrder
 mod Examples

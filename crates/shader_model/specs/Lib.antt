@@ -9,5 +9,6 @@ pub mod Shader
 pub mod Arithmetic
 pub mod Invocation
 pub mod Dispatch
+pub mod PlacesLeft
 pub mod Good
 pub mod Lengths

@@ -3,12 +3,12 @@ use Rattle.std.proofs.Common.{◌≡◌, ℕ, ◌+◌, ◌<◌, ◌^◌, List, �
 use Rattle.std.specs.Prelude.{IfOk}
 use Rattle.shader_model.specs.Shader.{Program}
 use Rattle.shader_model.specs.Good.{IsGood}
-use Rattle.spirv_words.specs.declared.fault.ModuleFault.{ModuleFault}
-use Rattle.spirv_words.specs.Words.{words_of, header}
-use Rattle.spirv_words.specs.FirstBad.{first_bad}
+use Rattle.spirv_model.specs.declared.fault.ModuleFault.{ModuleFault}
+use Rattle.spirv_model.specs.Words.{words_of, header}
+use Rattle.spirv_model.specs.FirstBad.{first_bad}
 use Rattle.spirv_emit.specs.Module.{module_ops, module_bound, module_of}
-use Rattle.spirv_emit.proofs.Bounds.{words_fit}
-use Rattle.spirv_emit.proofs.Accepted.{accepted}
+use Rattle.spirv_emit.proofs.Size.Bounds.{words_fit}
+use Rattle.spirv_emit.proofs.Profile.ModulePasses.{accepted}
 
 -- the words behind their header are the module
 pub module_is : (p : Program) (n : ℕ) (ws : List ℕ) → n ≡ module_bound p → ws ≡ words_of (module_ops p) → header n ++ ws ≡ module_of p

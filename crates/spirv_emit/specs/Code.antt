@@ -3,12 +3,13 @@ use Rattle.std.specs.Prelude.{ℕ, ◌+◌, List, [], ◌∷◌, ◌++◌, lengt
 use Rattle.shader_model.specs.declared.tree.Declared.{Declared}
 use Rattle.shader_model.specs.declared.tree.Test.{Test}
 use Rattle.shader_model.specs.Body.{Body, End, Plain, If, Loop, Break, Continue, Return}
-use Rattle.spirv_words.specs.declared.code.UnaryCode.{UnaryCode}
-use Rattle.spirv_words.specs.declared.code.UnaryCode.TheVariants as unary
-use Rattle.spirv_words.specs.declared.code.BinaryCode.{BinaryCode}
-use Rattle.spirv_words.specs.declared.code.BinaryCode.TheVariants as binary
-use Rattle.spirv_words.specs.Op.{Op}
-use Rattle.spirv_words.specs.Op as op
+use Rattle.spirv_model.specs.declared.settings.TheConstants as setting
+use Rattle.spirv_model.specs.declared.code.UnaryCode.{UnaryCode}
+use Rattle.spirv_model.specs.declared.code.UnaryCode.TheVariants as unary
+use Rattle.spirv_model.specs.declared.code.BinaryCode.{BinaryCode}
+use Rattle.spirv_model.specs.declared.code.BinaryCode.TheVariants as binary
+use Rattle.spirv_model.specs.Op.{Op}
+use Rattle.spirv_model.specs.Op as op
 use Rattle.spirv_emit.specs.declared.formula.Taken.{Taken}
 use Rattle.spirv_emit.specs.declared.formula.Taken.TheVariants as taken
 use Rattle.spirv_emit.specs.declared.formula.Step.{Step}
@@ -129,7 +130,7 @@ module _ (at : Layout) where
   choice_ops n c first second =
       let l = n + calculation_size c in
       calculation_ops n c
-      ++ (op.SelectionMerge (l + 2) 0 ∷ op.BranchConditional (calculation_id n c) l (l + 1) ∷ op.Label l
+      ++ (op.SelectionMerge (l + 2) setting.NO_CONTROL ∷ op.BranchConditional (calculation_id n c) l (l + 1) ∷ op.Label l
       ∷ (first ++ (op.Label (l + 1) ∷ (second ++ (op.Label (l + 2) ∷ [])))))
 
   -- ## Pieces
@@ -143,11 +144,11 @@ module _ (at : Layout) where
   action_ops n p (Write v) = leaf_ops n v ++ (op.Store p (leaf_id n v) ∷ [])
   action_ops n p (Change o v x) =
       let r = n + leaf_size v in
-      leaf_ops n v ++ (op.Atomic o word_type r p (at.number 1) (at.number 0) (leaf_id n v) ∷ op.Store (variable at x) r ∷ [])
+      leaf_ops n v ++ (op.Atomic o word_type r p (at.number setting.DEVICE_SCOPE) (at.number setting.RELAXED) (leaf_id n v) ∷ op.Store (variable at x) r ∷ [])
   action_ops n p (Swap v c x) =
       let m = n + leaf_size v in
       let r = m + leaf_size c in
-      leaf_ops n v ++ (leaf_ops m c ++ (op.AtomicCompareExchange word_type r p (at.number 1) (at.number 0) (at.number 0) (leaf_id n v) (leaf_id m c) ∷ op.Store (variable at x) r ∷ []))
+      leaf_ops n v ++ (leaf_ops m c ++ (op.AtomicCompareExchange word_type r p (at.number setting.DEVICE_SCOPE) (at.number setting.RELAXED) (at.number setting.RELAXED) (leaf_id n v) (leaf_id m c) ∷ op.Store (variable at x) r ∷ []))
 
   -- where there is no such word: 0 to the variable
   abbrev pub missed_ops : Action → List Op
@@ -201,7 +202,7 @@ inner_start n = choice_end (n + 4) turns_are_out + calculation_size one_turn_les
 -- the label n + 1, and n + 2 leads back to the header.
 abbrev pub loop_ops : Layout → ℕ → List Op → List Op
 loop_ops at n inner =
-    op.Branch n ∷ op.Label n ∷ op.LoopMerge (n + 1) (n + 2) 0 ∷ op.Branch (n + 3) ∷ op.Label (n + 3)
+    op.Branch n ∷ op.Label n ∷ op.LoopMerge (n + 1) (n + 2) setting.NO_CONTROL ∷ op.Branch (n + 3) ∷ op.Label (n + 3)
     ∷ (choice_ops at (n + 4) turns_are_out (op.Return ∷ []) (op.Branch (n + 4 + calculation_size turns_are_out + 2) ∷ [])
     ++ (assign_ops at (choice_end (n + 4) turns_are_out) turns one_turn_less
     ++ (inner ++ (op.Label (n + 2) ∷ op.Branch n ∷ op.Label (n + 1) ∷ []))))

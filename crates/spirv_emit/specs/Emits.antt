@@ -5,12 +5,13 @@ use Rattle.shader_model.specs.declared.tree.Test.{Test}
 use Rattle.shader_model.specs.declared.tree.Node.{Node}
 use Rattle.shader_model.specs.Body.{Body, End, Plain, If, Loop, Break, Continue, Return, node_before}
 use Rattle.shader_model.specs.Shader.{Program}
-use Rattle.spirv_words.specs.Op.{Op}
-use Rattle.spirv_words.specs.Op as op
-use Rattle.spirv_words.specs.Words.{words_of}
-use Rattle.spirv_words.specs.Settings as setting
-use Rattle.spirv_words.specs.Decoration as decoration
-use Rattle.spirv_words.specs.StorageClass as class
+use Rattle.spirv_model.specs.declared.built_ins.TheConstants as built_ins
+use Rattle.spirv_model.specs.Op.{Op}
+use Rattle.spirv_model.specs.Op as op
+use Rattle.spirv_model.specs.Words.{words_of}
+use Rattle.spirv_model.specs.declared.settings.TheConstants as setting
+use Rattle.spirv_model.specs.declared.decorations.TheConstants as decoration
+use Rattle.spirv_model.specs.declared.storage_classes.TheConstants as class
 use Rattle.spirv_emit.specs.declared.plan.Plan.{Plan}
 use Rattle.spirv_emit.specs.declared.code.Code.{Code}
 use Rattle.spirv_emit.specs.declared.formula.Taken.{Taken}
@@ -143,7 +144,7 @@ MaybeReady n (Some t) = TestIsSmall t × (left_end n t + 16 < 2 ^ 32)
 -- what stands before a loop's body
 abbrev pub loop_front : Layout → ℕ → List Op
 loop_front at n =
-    op.Branch n ∷ op.Label n ∷ op.LoopMerge (n + 1) (n + 2) 0 ∷ op.Branch (n + 3) ∷ op.Label (n + 3)
+    op.Branch n ∷ op.Label n ∷ op.LoopMerge (n + 1) (n + 2) setting.NO_CONTROL ∷ op.Branch (n + 3) ∷ op.Label (n + 3)
     ∷ (choice_ops at (n + 4) turns_are_out (op.Return ∷ []) (op.Branch (n + 4 + calculation_size turns_are_out + 2) ∷ [])
     ++ assign_ops at (choice_end (n + 4) turns_are_out) turns one_turn_less)
 
@@ -167,20 +168,20 @@ module _ (ds : List Declared) (at : Layout) where
 
 abbrev pub decorations_of_blocks : List Op
 decorations_of_blocks =
-    op.Decorate id.array_type decoration.array_stride (4 ∷ [])
-    ∷ op.Decorate id.buffer_block decoration.block []
-    ∷ op.MemberDecorate id.buffer_block 0 decoration.offset (0 ∷ [])
-    ∷ op.Decorate id.lengths_block decoration.block []
+    op.Decorate id.array_type decoration.ARRAY_STRIDE (setting.WORD_BYTES ∷ [])
+    ∷ op.Decorate id.buffer_block decoration.BLOCK []
+    ∷ op.MemberDecorate id.buffer_block 0 decoration.OFFSET (0 ∷ [])
+    ∷ op.Decorate id.lengths_block decoration.BLOCK []
     ∷ []
 
 abbrev pub decorations_of_inputs : List Op
-decorations_of_inputs = built_in id.group_id 26 ∷ built_in id.thread_id 27 ∷ built_in id.global_id 28 ∷ built_in id.thread_index 29 ∷ []
+decorations_of_inputs = built_in id.group_id built_ins.WORKGROUP_ID ∷ built_in id.thread_id built_ins.LOCAL_INVOCATION_ID ∷ built_in id.global_id built_ins.GLOBAL_INVOCATION_ID ∷ built_in id.thread_index built_ins.LOCAL_INVOCATION_INDEX ∷ []
 
 abbrev pub types_of_words : List Op
 types_of_words =
     op.TypeVoid id.void_type
     ∷ op.TypeFunction id.main_type id.void_type
-    ∷ op.TypeInt id.word_type 32 0
+    ∷ op.TypeInt id.word_type setting.WORD_WIDTH setting.UNSIGNED
     ∷ op.TypeBool id.truth_type
     ∷ op.TypeVector id.vector_type id.word_type 3
     ∷ []
@@ -195,32 +196,32 @@ types_of_blocks =
 
 abbrev pub types_of_pointers : List Op
 types_of_pointers =
-    op.TypePointer id.to_input_vector class.input id.vector_type
-    ∷ op.TypePointer id.to_input_word class.input id.word_type
-    ∷ op.TypePointer id.to_variable class.function id.word_type
-    ∷ op.TypePointer id.to_lengths class.push_constant id.lengths_block
+    op.TypePointer id.to_input_vector class.INPUT id.vector_type
+    ∷ op.TypePointer id.to_input_word class.INPUT id.word_type
+    ∷ op.TypePointer id.to_variable class.FUNCTION id.word_type
+    ∷ op.TypePointer id.to_lengths class.PUSH_CONSTANT id.lengths_block
     ∷ []
 
 abbrev pub types_of_buffers : List Op
 types_of_buffers =
-    op.TypePointer id.to_length class.push_constant id.word_type
-    ∷ op.TypePointer id.to_buffer class.storage_buffer id.buffer_block
-    ∷ op.TypePointer id.to_word class.storage_buffer id.word_type
+    op.TypePointer id.to_length class.PUSH_CONSTANT id.word_type
+    ∷ op.TypePointer id.to_buffer class.STORAGE_BUFFER id.buffer_block
+    ∷ op.TypePointer id.to_word class.STORAGE_BUFFER id.word_type
     ∷ []
 
 abbrev pub inputs : List Op
 inputs =
-    op.Variable id.to_input_vector id.group_id class.input []
-    ∷ op.Variable id.to_input_vector id.thread_id class.input []
-    ∷ op.Variable id.to_input_vector id.global_id class.input []
-    ∷ op.Variable id.to_input_word id.thread_index class.input []
-    ∷ op.Variable id.to_lengths id.lengths class.push_constant []
+    op.Variable id.to_input_vector id.group_id class.INPUT []
+    ∷ op.Variable id.to_input_vector id.thread_id class.INPUT []
+    ∷ op.Variable id.to_input_vector id.global_id class.INPUT []
+    ∷ op.Variable id.to_input_word id.thread_index class.INPUT []
+    ∷ op.Variable id.to_lengths id.lengths class.PUSH_CONSTANT []
     ∷ []
 
 -- the function of a shader, where numbers and variables have these ids
 abbrev pub function_code : Layout → Program → List Op
 function_code at p =
-    op.Function id.void_type id.main setting.no_control id.main_type
+    op.Function id.void_type id.main setting.NO_CONTROL id.main_type
     ∷ op.Label (first_label at)
     ∷ (variables at
     ++ (body_ops p.declared at p.body (body_start at) (last_label at) (last_label at) (last_label at)

@@ -2,8 +2,8 @@
 use Rattle.std.specs.Prelude.{ℕ, zero, suc, ◌==◌, if◌then◌else◌, nat_lt, List, [], ◌∷◌, ◌++◌, map, length, slice_index, Option, Some, None}
 use Rattle.shader_model.specs.declared.ids.Ids.{Ids}
 use Rattle.shader_model.specs.Invocation.{Slots, flattened, global}
-use Rattle.spirv_words.specs.Meaning.Values.{Value, Word, Truth, of_one, of_two, selected, component, left_by}
-use Rattle.spirv_words.specs.Meaning.Bindings.{words_at, with_word}
+use Rattle.spirv_model.specs.Meaning.Values.{Value, Word, Truth, of_one, of_two, selected, component, left_by}
+use Rattle.spirv_model.specs.Meaning.Bindings.{words_at, with_word}
 use Rattle.spirv_emit.specs.declared.formula.Taken.{Taken}
 use Rattle.spirv_emit.specs.declared.formula.Taken.TheVariants as taken
 use Rattle.spirv_emit.specs.declared.formula.Step.{Step}

@@ -10,7 +10,7 @@ use Rattle.shader_model.specs.declared.tree.Instr.{Instr}
 use Rattle.shader_model.specs.declared.tree.Test.{Test}
 use Rattle.shader_model.specs.Words.{bit, index_in, swizzle_in, picked}
 use Rattle.shader_model.specs.Fields.{used_as}
-use Rattle.spirv_words.specs.Meaning.Bindings.{first_read, first_write}
+use Rattle.spirv_model.specs.Meaning.Bindings.{first_read, first_write}
 use Rattle.spirv_emit.specs.declared.formula.Formula.{Formula}
 use Rattle.spirv_emit.specs.declared.formula.Formula.TheVariants as formula
 use Rattle.spirv_emit.specs.declared.piece.Vector.TheVariants.{Group, Thread, Global}

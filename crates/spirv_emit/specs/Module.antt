@@ -1,12 +1,13 @@
 -- The whole module of a shader: the preamble, the numbers and variables, the code, and the end.
 use Rattle.std.specs.Prelude.{ℕ, zero, suc, ◌+◌, ◌-◌, ◌*◌, List, [], ◌∷◌, ◌++◌, map, replicate, flat_map, slice_index}
 use Rattle.shader_model.specs.Shader.{Program}
-use Rattle.spirv_words.specs.Op.{Op}
-use Rattle.spirv_words.specs.Op as op
-use Rattle.spirv_words.specs.Words.{module_words}
-use Rattle.spirv_words.specs.Settings as setting
-use Rattle.spirv_words.specs.Decoration as decoration
-use Rattle.spirv_words.specs.StorageClass as class
+use Rattle.spirv_model.specs.declared.built_ins.TheConstants as built_ins
+use Rattle.spirv_model.specs.Op.{Op}
+use Rattle.spirv_model.specs.Op as op
+use Rattle.spirv_model.specs.Words.{module_words}
+use Rattle.spirv_model.specs.declared.settings.TheConstants as setting
+use Rattle.spirv_model.specs.declared.decorations.TheConstants as decoration
+use Rattle.spirv_model.specs.declared.storage_classes.TheConstants as class
 use Rattle.spirv_emit.specs.Layout as id
 use Rattle.spirv_emit.specs.Layout.{Layout, buffer_at, bindings, first_number, first_code}
 use Rattle.spirv_emit.specs.Numbers.{from_on, most_turns, numbers_of, layout_of}
@@ -22,61 +23,61 @@ interface = id.group_id ∷ id.thread_id ∷ id.global_id ∷ id.thread_index �
 
 abbrev pub settings : (group : List ℕ) → List Op
 settings group =
-    op.Capability setting.shader
-    ∷ op.MemoryModel setting.logical setting.glsl_450
-    ∷ op.EntryPoint setting.gl_compute id.main setting.name_main setting.name_end interface
-    ∷ op.ExecutionMode id.main setting.local_size (slice_index group 0) (slice_index group 1) (slice_index group 2)
+    op.Capability setting.SHADER
+    ∷ op.MemoryModel setting.LOGICAL setting.GLSL_450
+    ∷ op.EntryPoint setting.GL_COMPUTE id.main setting.NAME_MAIN setting.NAME_END interface
+    ∷ op.ExecutionMode id.main setting.LOCAL_SIZE (slice_index group 0) (slice_index group 1) (slice_index group 2)
     ∷ []
 
 -- a member of the block of lengths stands at four times its number
 abbrev pub offset_of : ℕ → Op
-offset_of b = op.MemberDecorate id.lengths_block b decoration.offset (4 * b ∷ [])
+offset_of b = op.MemberDecorate id.lengths_block b decoration.OFFSET (setting.WORD_BYTES * b ∷ [])
 
 -- the descriptor set and the binding of a buffer
 abbrev pub place_of : ℕ → List Op
-place_of b = op.Decorate (buffer_at b) decoration.descriptor_set (0 ∷ []) ∷ op.Decorate (buffer_at b) decoration.binding (b ∷ []) ∷ []
+place_of b = op.Decorate (buffer_at b) decoration.DESCRIPTOR_SET (setting.ONLY_SET ∷ []) ∷ op.Decorate (buffer_at b) decoration.BINDING (b ∷ []) ∷ []
 
 abbrev pub built_in : (variable number : ℕ) → Op
-built_in r n = op.Decorate r decoration.built_in (n ∷ [])
+built_in r n = op.Decorate r decoration.BUILT_IN (n ∷ [])
 
 abbrev pub decorations : List Op
 decorations =
-    op.Decorate id.array_type decoration.array_stride (4 ∷ [])
-    ∷ op.Decorate id.buffer_block decoration.block []
-    ∷ op.MemberDecorate id.buffer_block 0 decoration.offset (0 ∷ [])
-    ∷ op.Decorate id.lengths_block decoration.block []
-    ∷ built_in id.group_id 26
-    ∷ built_in id.thread_id 27
-    ∷ built_in id.global_id 28
-    ∷ built_in id.thread_index 29
+    op.Decorate id.array_type decoration.ARRAY_STRIDE (setting.WORD_BYTES ∷ [])
+    ∷ op.Decorate id.buffer_block decoration.BLOCK []
+    ∷ op.MemberDecorate id.buffer_block 0 decoration.OFFSET (0 ∷ [])
+    ∷ op.Decorate id.lengths_block decoration.BLOCK []
+    ∷ built_in id.group_id built_ins.WORKGROUP_ID
+    ∷ built_in id.thread_id built_ins.LOCAL_INVOCATION_ID
+    ∷ built_in id.global_id built_ins.GLOBAL_INVOCATION_ID
+    ∷ built_in id.thread_index built_ins.LOCAL_INVOCATION_INDEX
     ∷ (map offset_of (from_on 0 bindings) ++ flat_map place_of (from_on 0 bindings))
 
 abbrev pub buffer_variable : ℕ → Op
-buffer_variable r = op.Variable id.to_buffer r class.storage_buffer []
+buffer_variable r = op.Variable id.to_buffer r class.STORAGE_BUFFER []
 
 abbrev pub types : List Op
 types =
     op.TypeVoid id.void_type
     ∷ op.TypeFunction id.main_type id.void_type
-    ∷ op.TypeInt id.word_type 32 0
+    ∷ op.TypeInt id.word_type setting.WORD_WIDTH setting.UNSIGNED
     ∷ op.TypeBool id.truth_type
     ∷ op.TypeVector id.vector_type id.word_type 3
     ∷ op.TypeStruct id.pair_type (id.word_type ∷ id.word_type ∷ [])
     ∷ op.TypeRuntimeArray id.array_type id.word_type
     ∷ op.TypeStruct id.buffer_block (id.array_type ∷ [])
     ∷ op.TypeStruct id.lengths_block (replicate bindings id.word_type)
-    ∷ op.TypePointer id.to_input_vector class.input id.vector_type
-    ∷ op.TypePointer id.to_input_word class.input id.word_type
-    ∷ op.TypePointer id.to_variable class.function id.word_type
-    ∷ op.TypePointer id.to_lengths class.push_constant id.lengths_block
-    ∷ op.TypePointer id.to_length class.push_constant id.word_type
-    ∷ op.TypePointer id.to_buffer class.storage_buffer id.buffer_block
-    ∷ op.TypePointer id.to_word class.storage_buffer id.word_type
-    ∷ op.Variable id.to_input_vector id.group_id class.input []
-    ∷ op.Variable id.to_input_vector id.thread_id class.input []
-    ∷ op.Variable id.to_input_vector id.global_id class.input []
-    ∷ op.Variable id.to_input_word id.thread_index class.input []
-    ∷ op.Variable id.to_lengths id.lengths class.push_constant []
+    ∷ op.TypePointer id.to_input_vector class.INPUT id.vector_type
+    ∷ op.TypePointer id.to_input_word class.INPUT id.word_type
+    ∷ op.TypePointer id.to_variable class.FUNCTION id.word_type
+    ∷ op.TypePointer id.to_lengths class.PUSH_CONSTANT id.lengths_block
+    ∷ op.TypePointer id.to_length class.PUSH_CONSTANT id.word_type
+    ∷ op.TypePointer id.to_buffer class.STORAGE_BUFFER id.buffer_block
+    ∷ op.TypePointer id.to_word class.STORAGE_BUFFER id.word_type
+    ∷ op.Variable id.to_input_vector id.group_id class.INPUT []
+    ∷ op.Variable id.to_input_vector id.thread_id class.INPUT []
+    ∷ op.Variable id.to_input_vector id.global_id class.INPUT []
+    ∷ op.Variable id.to_input_word id.thread_index class.INPUT []
+    ∷ op.Variable id.to_lengths id.lengths class.PUSH_CONSTANT []
     ∷ map buffer_variable buffers
 
 -- all that stands before the module's own numbers
@@ -91,7 +92,7 @@ constants r (v ∷ vs) = op.Constant id.word_type r v ∷ constants (r + 1) vs
 
 -- a variable of the function that begins with a number
 abbrev pub local : Layout → (r first_value : ℕ) → Op
-local at r v = op.Variable id.to_variable r class.function (at.number v ∷ [])
+local at r v = op.Variable id.to_variable r class.FUNCTION (at.number v ∷ [])
 
 abbrev pub zero_variables : Layout → (r count : ℕ) → List Op
 zero_variables at r zero = []
@@ -116,7 +117,7 @@ body_start at = first_code at + 2
 abbrev pub function_ops : Program → List Op
 function_ops p =
     let at = layout_of p in
-    op.Function id.void_type id.main setting.no_control id.main_type
+    op.Function id.void_type id.main setting.NO_CONTROL id.main_type
     ∷ op.Label (first_label at)
     ∷ (variables at
     ++ (body_ops p.declared at p.body (body_start at) (last_label at) (last_label at) (last_label at)

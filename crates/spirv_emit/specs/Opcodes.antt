@@ -1,7 +1,7 @@
 -- The formulas of the instructions, by their opcodes.
 use Rattle.std.specs.Prelude.{ℕ, ◌==◌, if◌then◌else◌}
-use Rattle.spirv_words.specs.declared.code.AtomicCode.{AtomicCode}
-use Rattle.spirv_words.specs.declared.code.AtomicCode.TheVariants as atomic
+use Rattle.spirv_model.specs.declared.code.AtomicCode.{AtomicCode}
+use Rattle.spirv_model.specs.declared.code.AtomicCode.TheVariants as atomic
 use Rattle.spirv_emit.specs.declared.formula.Formula.{Formula}
 use Rattle.spirv_emit.specs.declared.formula.Formula.TheVariants as formula
 

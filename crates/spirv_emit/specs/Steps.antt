@@ -1,7 +1,7 @@
 -- The steps of each formula, on the words a, b, c, d and e.
 use Rattle.std.specs.Prelude.{List, [], ◌∷◌}
-use Rattle.spirv_words.specs.declared.code.UnaryCode.TheVariants as unary
-use Rattle.spirv_words.specs.declared.code.BinaryCode.TheVariants as binary
+use Rattle.spirv_model.specs.declared.code.UnaryCode.TheVariants as unary
+use Rattle.spirv_model.specs.declared.code.BinaryCode.TheVariants as binary
 use Rattle.spirv_emit.specs.declared.formula.Taken.{Taken}
 use Rattle.spirv_emit.specs.declared.formula.Taken.TheVariants.{Leaf, Made, Number}
 use Rattle.spirv_emit.specs.declared.formula.Step.{Step}

@@ -1,7 +1,8 @@
 // The code of accesses to words of slots, and of whole pieces.
 
 ghost use Rattle.std.specs.Prelude.{◌≡◌, ◌+◌, ◌<◌, ◌^◌, ◌++◌, ◌∷◌, [], OnOk, IfOk};
-ghost use Rattle.spirv_words.specs.Op as op;
+ghost use Rattle.spirv_model.specs.Op as op;
+ghost use Rattle.spirv_model.specs.declared.settings.TheConstants as setting;
 ghost use Rattle.spirv_emit.specs.declared.piece.Action.TheVariants as action;
 ghost use Rattle.spirv_emit.specs.Layout.{variable as of_variable};
 ghost use Rattle.spirv_emit.specs.Code.{leaf_size, calculation_size, action_size, action_ops, missed_ops, reach_ops, assign_ops};
@@ -11,7 +12,8 @@ use crate::code::Code;
 use crate::ids::{FIRST_BUFFER, TO_WORD, WORD_TYPE};
 use crate::piece::{Action, Calculation, Leaf};
 use crate::plan::Plan;
-use spirv_words::AtomicCode;
+use spirv_model::AtomicCode;
+use spirv_model::settings::{DEVICE_SCOPE, RELAXED};
 use std::alloc::AllocError;
 
 /// The labels of a choice: of its second side, and behind it.
@@ -26,7 +28,7 @@ impl Code {
     pub fn open_choice(&mut self, condition: u32) -> Result<Choice, AllocError>
         requires { self.old.next + 3 < 2 ^ 32 }
         ensures labels { let n = self.old.next in IfOk result (λ c. (c.second ≡ n + 1) × (c.behind ≡ n + 2)) }
-        ensures appends { let n = self.old.next in OnOk result (Appends self.old self.new (op.SelectionMerge (n + 2) 0 ∷ op.BranchConditional condition n (n + 1) ∷ op.Label n ∷ []) (n + 3)) }
+        ensures appends { let n = self.old.next in OnOk result (Appends self.old self.new (op.SelectionMerge (n + 2) setting.NO_CONTROL ∷ op.BranchConditional condition n (n + 1) ∷ op.Label n ∷ []) (n + 3)) }
     {
         let first = self.next;
         let second = first + 1;
@@ -90,7 +92,13 @@ impl Code {
         ensures { let at = layout_of plan.now in let n = self.old.next in OnOk result (Appends self.old self.new (action_ops at n pointer (action.Change code value variable)) (n + (leaf_size value + 1))) }
     {
         let value = self.leaf(plan, value)?;
-        let old = self.atomic(code, pointer, plan.number(1), plan.number(0), value)?;
+        let old = self.atomic(
+            code,
+            pointer,
+            plan.number(DEVICE_SCOPE),
+            plan.number(RELAXED),
+            value,
+        )?;
         self.store(plan.variable(variable), old)?;
         Ok(())
     }
@@ -113,8 +121,8 @@ impl Code {
         let comparator = self.leaf(plan, comparator)?;
         let old = self.compare_exchange(
             pointer,
-            plan.number(1),
-            plan.number(0),
+            plan.number(DEVICE_SCOPE),
+            plan.number(RELAXED),
             value,
             comparator,
         )?;

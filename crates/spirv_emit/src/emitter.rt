@@ -5,10 +5,10 @@ ghost use Rattle.shader_model.specs.declared.ids.Ids.{Ids};
 ghost use Rattle.shader_model.specs.Shader.{program_of};
 ghost use Rattle.shader_model.specs.Invocation.{Slots, invoked};
 ghost use Rattle.shader_model.specs.Dispatch.{is_allowed, dispatched};
-ghost use Rattle.spirv_words.specs.Words.{words_of};
-ghost use Rattle.spirv_words.specs.Meaning.Bindings.{SlotsFit};
-ghost use Rattle.spirv_words.specs.Meaning.ModuleMeaning.{module_meaning};
-ghost use Rattle.spirv_words.specs.Meaning.ModuleDispatch.{InRange, IsDefined, group_of, module_dispatched};
+ghost use Rattle.spirv_model.specs.Words.{words_of};
+ghost use Rattle.spirv_model.specs.Meaning.Bindings.{SlotsFit};
+ghost use Rattle.spirv_model.specs.Meaning.ModuleMeaning.{module_meaning};
+ghost use Rattle.spirv_model.specs.Meaning.ModuleDispatch.{InRange, IsDefined, group_of, module_dispatched};
 ghost use Rattle.spirv_emit.specs.Module.{module_bound, module_of, module_ops};
 
 use crate::code::Code;

@@ -1,7 +1,8 @@
 // The code of tests, of what leaves a block, and of loops.
 
 ghost use Rattle.std.specs.Prelude.{◌≡◌, ◌+◌, ◌<◌, ◌^◌, ◌++◌, ◌∷◌, [], IsTrue, OnOk, IfOk};
-ghost use Rattle.spirv_words.specs.Op as op;
+ghost use Rattle.spirv_model.specs.Op as op;
+ghost use Rattle.spirv_model.specs.declared.settings.TheConstants as setting;
 ghost use Rattle.spirv_emit.specs.Lower.{instr_pieces, test_pieces};
 ghost use Rattle.spirv_emit.specs.Code.{pieces_ops, pieces_end, inner_start};
 ghost use Rattle.spirv_emit.specs.Emits.{layout_of, Puts, Appends, PiecesAreSmall, TestIsSmall, MaybeReady, Left, out_op, left_ops, left_end, loop_front};
@@ -82,7 +83,7 @@ impl Code {
     /// Leaves where a condition holds.
     fn out_if(&mut self, condition: u32, out: Out) -> Result<(), AllocError>
         requires { self.old.next + 3 < 2 ^ 32 }
-        ensures { let n = self.old.next in OnOk result (Appends self.old self.new (op.SelectionMerge (n + 2) 0 ∷ op.BranchConditional condition n (n + 1) ∷ op.Label n ∷ out_op out ∷ op.Label (n + 1) ∷ op.Branch (n + 2) ∷ op.Label (n + 2) ∷ []) (n + 3)) }
+        ensures { let n = self.old.next in OnOk result (Appends self.old self.new (op.SelectionMerge (n + 2) setting.NO_CONTROL ∷ op.BranchConditional condition n (n + 1) ∷ op.Label n ∷ out_op out ∷ op.Label (n + 1) ∷ op.Branch (n + 2) ∷ op.Label (n + 2) ∷ []) (n + 3)) }
     {
         let choice = self.open_choice(condition)?;
         self.out(out)?;
@@ -141,7 +142,7 @@ impl Code {
     fn loop_header(&mut self) -> Result<Turn, AllocError>
         requires { self.old.next + 4 < 2 ^ 32 }
         ensures labels { let n = self.old.next in IfOk result (λ t. (t.header ≡ n) × (t.behind ≡ n + 1) × (t.again ≡ n + 2)) }
-        ensures appends { let n = self.old.next in OnOk result (Appends self.old self.new (op.Branch n ∷ op.Label n ∷ op.LoopMerge (n + 1) (n + 2) 0 ∷ op.Branch (n + 3) ∷ op.Label (n + 3) ∷ []) (n + 4)) }
+        ensures appends { let n = self.old.next in OnOk result (Appends self.old self.new (op.Branch n ∷ op.Label n ∷ op.LoopMerge (n + 1) (n + 2) setting.NO_CONTROL ∷ op.Branch (n + 3) ∷ op.Label (n + 3) ∷ []) (n + 4)) }
     {
         let header = self.next;
         let turn = Turn {

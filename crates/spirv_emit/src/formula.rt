@@ -1,6 +1,6 @@
 // Straight-line code: what is computed of some words, step by step.
 
-use spirv_words::{BinaryCode, UnaryCode};
+use spirv_model::{BinaryCode, UnaryCode};
 
 /// What a step takes: one of the words that the code begins with, what an earlier step made, or a number.
 #[derive(Clone, Copy)]

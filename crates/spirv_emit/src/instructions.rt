@@ -1,16 +1,17 @@
 // The instructions of code, one by one. Those with a result take the next free id for it.
 
 ghost use Rattle.std.specs.Prelude.{◌≡◌, ◌+◌, ◌<◌, ◌^◌, ◌++◌, ◌∷◌, [], length, OnOk, IfOk};
-ghost use Rattle.spirv_words.specs.Op as op;
-ghost use Rattle.spirv_words.specs.Words.{spelled};
+ghost use Rattle.spirv_model.specs.Op as op;
+ghost use Rattle.spirv_model.specs.Words.{spelled};
 ghost use Rattle.spirv_emit.specs.Code.{one_type, two_type};
 ghost use Rattle.spirv_emit.specs.Layout.{word_type};
 ghost use Rattle.spirv_emit.specs.Emits.{Puts, Appends};
 
 use crate::code::Code;
-use crate::codes::{atomic_code, binary_code, one_type, two_type, unary_code};
 use crate::ids::WORD_TYPE;
-use spirv_words::{AtomicCode, BinaryCode, UnaryCode};
+use crate::result_types::{one_type, two_type};
+use spirv_model::settings::NO_CONTROL;
+use spirv_model::{AtomicCode, BinaryCode, UnaryCode, opcodes};
 use std::alloc::AllocError;
 
 impl Code {
@@ -42,7 +43,7 @@ impl Code {
         ensures id { IfOk result (λ r. r ≡ self.old.next) }
         ensures appends { let n = self.old.next in OnOk result (Appends self.old self.new (op.Load result_type n pointer ∷ []) (n + 1)) }
     {
-        self.make(61, &[result_type, self.next, pointer])
+        self.make(opcodes::LOAD, &[result_type, self.next, pointer])
     }
 
     /// A pointer to what one index finds.
@@ -51,7 +52,10 @@ impl Code {
         ensures id { IfOk result (λ r. r ≡ self.old.next) }
         ensures appends { let n = self.old.next in OnOk result (Appends self.old self.new (op.AccessChain result_type n base (index ∷ []) ∷ []) (n + 1)) }
     {
-        self.make(65, &[result_type, self.next, base, index])
+        self.make(
+            opcodes::ACCESS_CHAIN,
+            &[result_type, self.next, base, index],
+        )
     }
 
     /// A pointer to what two indexes find.
@@ -66,7 +70,10 @@ impl Code {
         ensures id { IfOk result (λ r. r ≡ self.old.next) }
         ensures appends { let n = self.old.next in OnOk result (Appends self.old self.new (op.AccessChain result_type n base (first ∷ second ∷ []) ∷ []) (n + 1)) }
     {
-        self.make(65, &[result_type, self.next, base, first, second])
+        self.make(
+            opcodes::ACCESS_CHAIN,
+            &[result_type, self.next, base, first, second],
+        )
     }
 
     pub fn extract(&mut self, composite: u32, index: u32) -> Result<u32, AllocError>
@@ -74,7 +81,10 @@ impl Code {
         ensures id { IfOk result (λ r. r ≡ self.old.next) }
         ensures appends { let n = self.old.next in OnOk result (Appends self.old self.new (op.CompositeExtract word_type n composite index ∷ []) (n + 1)) }
     {
-        self.make(81, &[WORD_TYPE, self.next, composite, index])
+        self.make(
+            opcodes::COMPOSITE_EXTRACT,
+            &[WORD_TYPE, self.next, composite, index],
+        )
     }
 
     pub fn unary(&mut self, code: UnaryCode, a: u32) -> Result<u32, AllocError>
@@ -82,7 +92,7 @@ impl Code {
         ensures id { IfOk result (λ r. r ≡ self.old.next) }
         ensures appends { let n = self.old.next in OnOk result (Appends self.old self.new (op.Unary code (one_type code) n a ∷ []) (n + 1)) }
     {
-        self.make(unary_code(code), &[one_type(code), self.next, a])
+        self.make(code.number(), &[one_type(code), self.next, a])
     }
 
     pub fn binary(&mut self, code: BinaryCode, a: u32, b: u32) -> Result<u32, AllocError>
@@ -90,7 +100,7 @@ impl Code {
         ensures id { IfOk result (λ r. r ≡ self.old.next) }
         ensures appends { let n = self.old.next in OnOk result (Appends self.old self.new (op.Binary code (two_type code) n a b ∷ []) (n + 1)) }
     {
-        self.make(binary_code(code), &[two_type(code), self.next, a, b])
+        self.make(code.number(), &[two_type(code), self.next, a, b])
     }
 
     pub fn select(&mut self, condition: u32, a: u32, b: u32) -> Result<u32, AllocError>
@@ -98,7 +108,7 @@ impl Code {
         ensures id { IfOk result (λ r. r ≡ self.old.next) }
         ensures appends { let n = self.old.next in OnOk result (Appends self.old self.new (op.Select word_type n condition a b ∷ []) (n + 1)) }
     {
-        self.make(169, &[WORD_TYPE, self.next, condition, a, b])
+        self.make(opcodes::SELECT, &[WORD_TYPE, self.next, condition, a, b])
     }
 
     /// An atomic operation of this scope and order.
@@ -115,7 +125,7 @@ impl Code {
         ensures appends { let n = self.old.next in OnOk result (Appends self.old self.new (op.Atomic code word_type n pointer scope order value ∷ []) (n + 1)) }
     {
         self.make(
-            atomic_code(code),
+            code.number(),
             &[WORD_TYPE, self.next, pointer, scope, order, value],
         )
     }
@@ -134,7 +144,7 @@ impl Code {
         ensures appends { let n = self.old.next in OnOk result (Appends self.old self.new (op.AtomicCompareExchange word_type n pointer scope order order value comparator ∷ []) (n + 1)) }
     {
         self.make(
-            230,
+            opcodes::ATOMIC_COMPARE_EXCHANGE,
             &[
                 WORD_TYPE, self.next, pointer, scope, order, order, value, comparator,
             ],
@@ -144,31 +154,31 @@ impl Code {
     pub fn store(&mut self, pointer: u32, value: u32) -> Result<(), AllocError>
         ensures { OnOk result (Puts self.old self.new (op.Store pointer value ∷ [])) }
     {
-        self.put(62, &[pointer, value])
+        self.put(opcodes::STORE, &[pointer, value])
     }
 
     pub fn loop_merge(&mut self, merge: u32, next: u32) -> Result<(), AllocError>
-        ensures { OnOk result (Puts self.old self.new (op.LoopMerge merge next 0 ∷ [])) }
+        ensures { OnOk result (Puts self.old self.new (op.LoopMerge merge next NO_CONTROL ∷ [])) }
     {
-        self.put(246, &[merge, next, 0])
+        self.put(opcodes::LOOP_MERGE, &[merge, next, NO_CONTROL])
     }
 
     pub fn selection_merge(&mut self, merge: u32) -> Result<(), AllocError>
-        ensures { OnOk result (Puts self.old self.new (op.SelectionMerge merge 0 ∷ [])) }
+        ensures { OnOk result (Puts self.old self.new (op.SelectionMerge merge NO_CONTROL ∷ [])) }
     {
-        self.put(247, &[merge, 0])
+        self.put(opcodes::SELECTION_MERGE, &[merge, NO_CONTROL])
     }
 
     pub fn label(&mut self, id: u32) -> Result<(), AllocError>
         ensures { OnOk result (Puts self.old self.new (op.Label id ∷ [])) }
     {
-        self.put(248, &[id])
+        self.put(opcodes::LABEL, &[id])
     }
 
     pub fn branch(&mut self, label: u32) -> Result<(), AllocError>
         ensures { OnOk result (Puts self.old self.new (op.Branch label ∷ [])) }
     {
-        self.put(249, &[label])
+        self.put(opcodes::BRANCH, &[label])
     }
 
     pub fn branch_conditional(
@@ -179,12 +189,12 @@ impl Code {
     ) -> Result<(), AllocError>
         ensures { OnOk result (Puts self.old self.new (op.BranchConditional condition yes no ∷ [])) }
     {
-        self.put(250, &[condition, yes, no])
+        self.put(opcodes::BRANCH_CONDITIONAL, &[condition, yes, no])
     }
 
     pub fn leave(&mut self) -> Result<(), AllocError>
         ensures { OnOk result (Puts self.old self.new (op.Return ∷ [])) }
     {
-        self.put(253, &[])
+        self.put(opcodes::RETURN, &[])
     }
 }

@@ -1,7 +1,7 @@
 // The code of the words that a calculation begins with.
 
 ghost use Rattle.std.specs.Prelude.{◌≡◌, ◌+◌, ◌<◌, ◌^◌, ◌∷◌, [], OnOk, IfOk};
-ghost use Rattle.spirv_words.specs.Op as op;
+ghost use Rattle.spirv_model.specs.Op as op;
 ghost use Rattle.spirv_emit.specs.declared.piece.Leaf.TheVariants as leaf;
 ghost use Rattle.spirv_emit.specs.Layout.{word_type, vector_type, vector_id};
 ghost use Rattle.spirv_emit.specs.Code.{leaf_size, leaf_ops, leaf_id, leaves_size, leaves_ops, leaf_ids};

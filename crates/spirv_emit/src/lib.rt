@@ -3,7 +3,6 @@
 
 mod access;
 mod code;
-mod codes;
 mod collect;
 mod declarations;
 mod destinations;
@@ -23,6 +22,7 @@ mod piece_code;
 mod places;
 mod plan;
 mod preamble;
+mod result_types;
 mod sources;
 mod spots;
 mod steps;

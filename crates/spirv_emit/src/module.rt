@@ -3,9 +3,8 @@
 ghost use Rattle.std.specs.Prelude.{◌≡◌, ◌+◌, ◌-◌, ◌<◌, ◌≤◌, ◌^◌, ◌++◌, ◌∷◌, [], length, OnOk, IfOk};
 ghost use Rattle.shader_model.specs.Good.{IsGood};
 ghost use Rattle.shader_model.specs.Shader.{program_of};
-ghost use Rattle.spirv_words.specs.Op as op;
-ghost use Rattle.spirv_words.specs.Settings as setting;
-ghost use Rattle.spirv_words.specs.Words.{words_of};
+ghost use Rattle.spirv_model.specs.Op as op;
+ghost use Rattle.spirv_model.specs.Words.{words_of};
 ghost use Rattle.spirv_emit.specs.Layout as id;
 ghost use Rattle.spirv_emit.specs.Numbers.{numbers_of};
 ghost use Rattle.spirv_emit.specs.Module.{preamble, constants, local, zero_variables, variables, body_start, module_ops, module_bound};
@@ -20,11 +19,10 @@ use crate::nodes::{Exits, emit_nodes};
 use crate::plan::Plan;
 use dx_types::limits::LOOP_TURNS;
 use shader_model::Shader;
+use spirv_model::settings::NO_CONTROL;
+use spirv_model::storage_classes::FUNCTION;
 use spirv_words::Builder;
 use std::alloc::{AllocError, Global};
-
-// The storage class of a function's variables.
-const FUNCTION: u32 = 7;
 
 impl Code {
     fn fresh(&mut self) -> u32
@@ -96,7 +94,7 @@ fn emit_function(plan: &Plan, shader: &Shader, code: &mut Code) -> Result<(), Al
     requires ready { let at = layout_of plan.now in let p = program_of shader.now in Ready p.declared p.body (body_start at) }
     ensures { let at = layout_of plan.now in let p = program_of shader.now in OnOk result (Appends code.old code.new (function_code at p) (body_end p.declared p.body (body_start at))) }
 {
-    code.function(VOID_TYPE, MAIN, 0, MAIN_TYPE)?;
+    code.function(VOID_TYPE, MAIN, NO_CONTROL, MAIN_TYPE)?;
     let first = plan.first_variable() + plan.variables;
     code.label(first)?;
     code.variables(plan)?;

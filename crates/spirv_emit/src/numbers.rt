@@ -21,7 +21,7 @@ impl Model for Numbers {
     ghost view = { λ n. n.seen.keys };
 }
 
-#[tactic(auto, using(crate::proofs::Named::added_number))]
+#[tactic(auto, using(crate::proofs::Words::NumberPlaces::added_number))]
 impl Numbers {
     pub fn new(alloc: Global) -> Numbers
         ensures { result ≡ [] }

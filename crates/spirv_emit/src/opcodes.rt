@@ -4,7 +4,7 @@ ghost use Rattle.std.specs.Prelude.{◌≡◌};
 ghost use Rattle.spirv_emit.specs.Opcodes.{first_formula, second_formula, atomic_of};
 
 use crate::formula::Formula;
-use spirv_words::AtomicCode;
+use spirv_model::AtomicCode;
 
 /// What an instruction that computes gives its first destination.
 pub fn first_formula(opcode: u8) -> Formula

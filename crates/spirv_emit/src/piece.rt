@@ -2,7 +2,7 @@
 
 use crate::formula::Formula;
 use dx_types::Form;
-use spirv_words::AtomicCode;
+use spirv_model::AtomicCode;
 
 /// A vector that is built in.
 #[derive(Clone, Copy)]

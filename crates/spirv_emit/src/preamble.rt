@@ -1,8 +1,8 @@
 // What stands in a module before its numbers.
 
 ghost use Rattle.std.specs.Prelude.{◌<◌, ◌∷◌, [], map, replicate, flat_map, OnOk};
-ghost use Rattle.spirv_words.specs.Op as op;
-ghost use Rattle.spirv_words.specs.Settings as setting;
+ghost use Rattle.spirv_model.specs.Op as op;
+ghost use Rattle.spirv_model.specs.declared.settings.TheConstants as setting;
 ghost use Rattle.spirv_emit.specs.Numbers.{from_on};
 ghost use Rattle.spirv_emit.specs.Layout as id;
 ghost use Rattle.spirv_emit.specs.Module.{interface, settings, decorations, types, preamble, offset_of, place_of, buffers, buffer_variable};
@@ -15,44 +15,24 @@ use crate::ids::{
     TO_LENGTH, TO_LENGTHS, TO_VARIABLE, TO_WORD, TRUTH_TYPE, VECTOR_TYPE, VOID_TYPE, WORD_TYPE,
 };
 use dx_types::limits::MODULE_BINDINGS;
+use spirv_model::built_ins::{
+    GLOBAL_INVOCATION_ID, LOCAL_INVOCATION_ID, LOCAL_INVOCATION_INDEX, WORKGROUP_ID,
+};
+use spirv_model::decorations::{ARRAY_STRIDE, BINDING, BLOCK, BUILT_IN, DESCRIPTOR_SET, OFFSET};
+use spirv_model::opcodes;
+use spirv_model::settings::{
+    GL_COMPUTE, GLSL_450, LOCAL_SIZE, LOGICAL, NAME_END, NAME_MAIN, ONLY_SET, SHADER, UNSIGNED,
+    WORD_BYTES, WORD_WIDTH,
+};
+use spirv_model::storage_classes::{FUNCTION, INPUT, PUSH_CONSTANT, STORAGE_BUFFER};
 use std::alloc::AllocError;
-
-const SHADER: u32 = 1;
-
-const LOGICAL: u32 = 0;
-
-const GLSL_450: u32 = 1;
-
-const LOCAL_SIZE: u32 = 17;
-
-// Storage classes.
-const INPUT: u32 = 1;
-
-const FUNCTION: u32 = 7;
-
-const PUSH_CONSTANT: u32 = 9;
-
-const STORAGE_BUFFER: u32 = 12;
-
-// Decorations.
-const BLOCK: u32 = 2;
-
-const ARRAY_STRIDE: u32 = 6;
-
-const BUILT_IN: u32 = 11;
-
-const BINDING: u32 = 33;
-
-const DESCRIPTOR_SET: u32 = 34;
-
-const OFFSET: u32 = 35;
 
 // A compute shader that begins at `main`, with all variables of the module: the inputs, the lengths and the buffers.
 const ENTRY_POINT: [u32; 47] = [
-    5,
+    GL_COMPUTE,
     MAIN,
-    0x6e69_616d,
-    0,
+    NAME_MAIN,
+    NAME_END,
     GROUP_ID,
     THREAD_ID,
     GLOBAL_ID,
@@ -100,9 +80,9 @@ const ENTRY_POINT: [u32; 47] = [
 
 impl Code {
     fn entry_point(&mut self) -> Result<(), AllocError>
-        ensures { OnOk result (Puts self.old self.new (op.EntryPoint setting.gl_compute id.main setting.name_main setting.name_end interface ∷ [])) }
+        ensures { OnOk result (Puts self.old self.new (op.EntryPoint setting.GL_COMPUTE id.main setting.NAME_MAIN setting.NAME_END interface ∷ [])) }
     {
-        self.put(15, &ENTRY_POINT)
+        self.put(opcodes::ENTRY_POINT, &ENTRY_POINT)
     }
 
     fn settings(&mut self, group: [u32; 3]) -> Result<(), AllocError>
@@ -118,7 +98,7 @@ impl Code {
     fn decorate_blocks(&mut self) -> Result<(), AllocError>
         ensures { OnOk result (Puts self.old self.new decorations_of_blocks) }
     {
-        self.decorate_by(ARRAY_TYPE, ARRAY_STRIDE, 4)?;
+        self.decorate_by(ARRAY_TYPE, ARRAY_STRIDE, WORD_BYTES)?;
         self.decorate(BUFFER_BLOCK, BLOCK)?;
         self.member_decorate(BUFFER_BLOCK, 0, OFFSET, 0)?;
         self.decorate(LENGTHS_BLOCK, BLOCK)?;
@@ -128,10 +108,10 @@ impl Code {
     fn decorate_inputs(&mut self) -> Result<(), AllocError>
         ensures { OnOk result (Puts self.old self.new decorations_of_inputs) }
     {
-        self.decorate_by(GROUP_ID, BUILT_IN, 26)?;
-        self.decorate_by(THREAD_ID, BUILT_IN, 27)?;
-        self.decorate_by(GLOBAL_ID, BUILT_IN, 28)?;
-        self.decorate_by(THREAD_INDEX, BUILT_IN, 29)?;
+        self.decorate_by(GROUP_ID, BUILT_IN, WORKGROUP_ID)?;
+        self.decorate_by(THREAD_ID, BUILT_IN, LOCAL_INVOCATION_ID)?;
+        self.decorate_by(GLOBAL_ID, BUILT_IN, GLOBAL_INVOCATION_ID)?;
+        self.decorate_by(THREAD_INDEX, BUILT_IN, LOCAL_INVOCATION_INDEX)?;
         Ok(())
     }
 
@@ -139,7 +119,7 @@ impl Code {
         ensures { OnOk result (Puts self.old self.new (map offset_of (from_on 0 MODULE_BINDINGS))) }
     {
         for binding in 0..MODULE_BINDINGS {
-            self.member_decorate(LENGTHS_BLOCK, binding, OFFSET, 4 * binding)?;
+            self.member_decorate(LENGTHS_BLOCK, binding, OFFSET, WORD_BYTES * binding)?;
         }
         Ok(())
     }
@@ -150,7 +130,7 @@ impl Code {
         ensures { OnOk result (Puts self.old self.new (place_of binding)) }
     {
         let buffer = FIRST_BUFFER + binding;
-        self.decorate_by(buffer, DESCRIPTOR_SET, 0)?;
+        self.decorate_by(buffer, DESCRIPTOR_SET, ONLY_SET)?;
         self.decorate_by(buffer, BINDING, binding)?;
         Ok(())
     }
@@ -179,7 +159,7 @@ impl Code {
     {
         self.type_void(VOID_TYPE)?;
         self.type_function(MAIN_TYPE, VOID_TYPE)?;
-        self.type_int(WORD_TYPE, 32, 0)?;
+        self.type_int(WORD_TYPE, WORD_WIDTH, UNSIGNED)?;
         self.type_bool(TRUTH_TYPE)?;
         self.type_vector(VECTOR_TYPE, WORD_TYPE, 3)?;
         Ok(())
@@ -188,13 +168,13 @@ impl Code {
     fn pair_type(&mut self) -> Result<(), AllocError>
         ensures { OnOk result (Puts self.old self.new (op.TypeStruct id.pair_type (id.word_type ∷ id.word_type ∷ []) ∷ [])) }
     {
-        self.put(30, &[PAIR_TYPE, WORD_TYPE, WORD_TYPE])
+        self.put(opcodes::TYPE_STRUCT, &[PAIR_TYPE, WORD_TYPE, WORD_TYPE])
     }
 
     fn buffer_block(&mut self) -> Result<(), AllocError>
         ensures { OnOk result (Puts self.old self.new (op.TypeStruct id.buffer_block (id.array_type ∷ []) ∷ [])) }
     {
-        self.put(30, &[BUFFER_BLOCK, ARRAY_TYPE])
+        self.put(opcodes::TYPE_STRUCT, &[BUFFER_BLOCK, ARRAY_TYPE])
     }
 
     fn lengths_block(&mut self) -> Result<(), AllocError>
@@ -202,7 +182,7 @@ impl Code {
     {
         let mut operands = [WORD_TYPE; 39];
         operands[0] = LENGTHS_BLOCK;
-        self.put(30, &operands)
+        self.put(opcodes::TYPE_STRUCT, &operands)
     }
 
     fn block_types(&mut self) -> Result<(), AllocError>

@@ -4,7 +4,7 @@ ghost use Rattle.std.specs.Prelude.{◌≡◌};
 ghost use Rattle.spirv_emit.specs.Steps.{steps_of};
 
 use crate::formula::{Formula, Step, Taken};
-use spirv_words::{BinaryCode, UnaryCode};
+use spirv_model::{BinaryCode, UnaryCode};
 
 const A: Taken = Taken::Leaf(0);
 

@@ -9,7 +9,7 @@ use crate::formula::{Step, Taken};
 use crate::piece::Calculation;
 use crate::plan::Plan;
 use crate::steps::steps;
-use spirv_words::BinaryCode;
+use spirv_model::BinaryCode;
 use std::alloc::AllocError;
 
 /// Where a calculation's words have their ids: those that it begins with, and from an id on what its steps made.

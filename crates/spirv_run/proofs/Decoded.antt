@@ -1,10 +1,10 @@
 -- The table of a module while it is made.
 use Rattle.std.proofs.Common.{◌≡◌, ℕ, zero, suc, ◌+◌, ◌-◌, ◌<◌, ◌≤◌, Bool, List, [], ◌∷◌, ◌++◌, length, take, drop, map, get_or, refl, sym, ap, ◌∙◌, arith, append-nil, append_assoc}
 use Rattle.std.proofs.lemmas.List.{map-append, take_all}
-use Rattle.spirv_words.specs.Op.{Op}
-use Rattle.spirv_words.specs.Words.{Instruction, BadCount, BadOpcode, front}
-use Rattle.spirv_words.specs.FirstBad.{reading, read_front}
-use Rattle.spirv_words.specs.Meaning.ModuleDispatch.{local_size, group_of}
+use Rattle.spirv_model.specs.Op.{Op}
+use Rattle.spirv_model.specs.Words.{Instruction, BadCount, BadOpcode, front}
+use Rattle.spirv_model.specs.FirstBad.{reading, read_front}
+use Rattle.spirv_model.specs.Meaning.ModuleDispatch.{local_size, group_of}
 use Rattle.spirv_run.specs.declared.step.Step.{Step}
 use Rattle.spirv_run.specs.Decoding.{steps_from, step_of, steps_of, ops_of, is_label, begins_with_label}
 

@@ -2,9 +2,9 @@
 use Rattle.std.proofs.Common.{◌≡◌, ℕ, Bool, true, if◌then◌else◌, Some, None, ap, ◌∙◌}
 use Rattle.std.specs.Prelude.{slice_index}
 use Rattle.shader_model.specs.Invocation.{Slots}
-use Rattle.spirv_words.specs.Meaning.Values.{Word}
-use Rattle.spirv_words.specs.Meaning.Bindings.{words_at, is_writable, with_word}
-use Rattle.spirv_words.specs.Meaning.Memory.{Memory, with_result, exchanged}
+use Rattle.spirv_model.specs.Meaning.Values.{Word}
+use Rattle.spirv_model.specs.Meaning.Bindings.{words_at, is_writable, with_word}
+use Rattle.spirv_model.specs.Meaning.Memory.{Memory, with_result, exchanged}
 use Rattle.spirv_run.specs.declared.frame.Frame.{Frame}
 use Rattle.spirv_run.specs.Held.{memory_of}
 use Rattle.spirv_run.specs.Steps.{Reaches, left_in}

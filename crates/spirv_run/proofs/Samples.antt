@@ -1,21 +1,18 @@
--- The modules of the tests: what is asked of them before they are run.
+-- The modules of the tests: each of their invocations has an outcome.
 use Rattle.std.proofs.Common.{◌≡◌, ℕ, zero, suc, ◌+◌, ◌<◌, Bool, true, false, if◌then◌else◌, List, [], ◌∷◌, length, drop, Option, Some, None, refl, sym, ap, ◌∙◌, subst, arith}
 use Rattle.std.specs.Prelude.{nat_lt, slice_index, IsSome}
 use Rattle.shader_model.specs.declared.ids.Ids.{Ids}
 use Rattle.shader_model.specs.Arithmetic.{low}
-use Rattle.shader_model.specs.Invocation.{Slots, words_in, global}
-use Rattle.shader_model.specs.Dispatch.{volume}
-use Rattle.spirv_words.specs.Operands.{Verdict, or_else}
-use Rattle.spirv_words.specs.Words.{front}
-use Rattle.spirv_words.specs.Table.{opcode_of}
-use Rattle.spirv_words.specs.FirstBad.{Reading, reading, first_bad, body_fault, fault_at}
-use Rattle.spirv_words.specs.Meaning.Values.{Word, Truth, At, ToBuffer, ToWord, ToLengths, ToLength, ToInput}
-use Rattle.spirv_words.specs.Meaning.Memory.{Memory, with_result}
-use Rattle.spirv_words.specs.Meaning.ModuleMeaning.{results_in, runs, begun, limit_of, reading_of, module_meaning}
+use Rattle.shader_model.specs.Invocation.{Slots, words_in}
+use Rattle.spirv_model.specs.Words.{front}
+use Rattle.spirv_model.specs.Table.{opcode_of}
+use Rattle.spirv_model.specs.FirstBad.{reading}
+use Rattle.spirv_model.specs.Meaning.Values.{Word, Truth, At, ToBuffer, ToWord, ToLengths, ToLength, ToInput}
+use Rattle.spirv_model.specs.Meaning.Memory.{Memory, with_result}
+use Rattle.spirv_model.specs.Meaning.ModuleMeaning.{results_in, runs, begun, limit_of, reading_of, module_meaning}
 use Rattle.spirv_run.specs.Decoding.{ops_of}
-use Rattle.spirv_run.specs.Threads.{IsPlaced}
 use Rattle.spirv_run.proofs.Stepping.{whole_meaning}
-use Rattle.spirv_words.specs.Meaning.ModuleDispatch.{IsDefined, group_of}
+use Rattle.spirv_model.specs.Meaning.ModuleDispatch.{IsDefined}
 
 abbrev pub minimal : List ℕ
 minimal = 119734787 ∷ 67072 ∷ 0 ∷ 5 ∷ 0 ∷ 131089 ∷ 1 ∷ 196622 ∷ 0 ∷ 1 ∷ 327695 ∷ 5 ∷ 3 ∷ 1852399981 ∷ 0 ∷ 393232 ∷ 3 ∷ 17 ∷ 4 ∷ 2 ∷ 1 ∷ 131091 ∷ 1 ∷ 196641 ∷ 2 ∷ 1 ∷ 327734 ∷ 1 ∷ 3 ∷ 0 ∷ 2 ∷ 131320 ∷ 4 ∷ 65789 ∷ 65592 ∷ []
@@ -27,14 +24,6 @@ counter = 119734787 ∷ 67072 ∷ 0 ∷ 43 ∷ 0 ∷ 131089 ∷ 1 ∷ 196622 ∷
 pub minimal_defined : IsDefined minimal
 unfolding module_meaning reading front opcode_of
 minimal_defined ids slots r f = refl
-
-pub minimal_threads : volume (group_of minimal) ≡ 8
-unfolding group_of reading front opcode_of
-minimal_threads = refl
-
-pub counter_threads : volume (group_of counter) ≡ 4
-unfolding group_of reading front opcode_of
-counter_threads = refl
 
 -- the counter's module compares twice, and has an outcome whatever the answers are
 abbrev len : Slots → ℕ
@@ -130,44 +119,3 @@ counter_defined ids slots r f =
     subst IsSome (sym (whole_meaning counter ids slots counter_read))
     (subst (λ k. IsSome (runs ids (ops_of counter) k (ops_of counter) (begun slots))) (sym limit)
     (counts 2219975 ids slots (nat_lt 0 (len slots)) (nat_lt (counted slots) (len slots)) refl refl))
-
--- ## Modules that are well formed
-
-later_none : {T : Type 0} (a b : Option T) → or_else a b ≡ None → b ≡ None
-later_none None b h = h
-later_none (Some x) b h = absurd (cc)
-
-first_none : {T : Type 0} (a b : Option T) → or_else a b ≡ None → a ≡ None
-first_none None b h = refl
-first_none (Some x) b h = absurd (cc)
-
-no_stop : (at : ℕ) (v : Verdict) → fault_at at v ≡ None → v ≡ None
-no_stop at None h = refl
-no_stop at (Some k) h = absurd (cc)
-
-body_read : (bound : ℕ) (r : Reading) → body_fault bound r ≡ None → r.stop ≡ None
-body_read bound r h = no_stop _ r.stop (first_none _ _ (later_none _ _ h))
-
--- they are read to their end
-pub good_read : (words : List ℕ) → first_bad words ≡ None → (reading_of words).stop ≡ None
-unfolding first_bad reading
-good_read (m ∷ v ∷ g ∷ b ∷ s ∷ ws) h = body_read b (reading (length ws) ws) (later_none _ _ h)
-good_read [] h = refl
-good_read (m ∷ []) h = refl
-good_read (m ∷ v ∷ []) h = refl
-good_read (m ∷ v ∷ g ∷ []) h = refl
-good_read (m ∷ v ∷ g ∷ b ∷ []) h = refl
-
--- ## The first invocation of a group of one
-
-abbrev first : Ids
-first = record { group = 0 ∷ 0 ∷ 0 ∷ []; thread = 0 ∷ 0 ∷ 0 ∷ []; size = 1 ∷ 1 ∷ 1 ∷ [] }
-
-first_global : (c : ℕ) → c < 3 → global first c < 4294967296
-first_global zero lt = omega arith
-first_global (suc zero) lt = omega arith
-first_global (suc (suc zero)) lt = omega arith
-first_global (suc (suc (suc c))) lt = absurd (omega arith)
-
-pub first_placed : IsPlaced first
-first_placed = record { global = first_global; plane = omega arith; flattened = omega arith }

@@ -4,15 +4,15 @@ use Rattle.std.specs.Prelude.{slice_get, unwrap_or, IsSome}
 use Rattle.std.proofs.lemmas.List.{drop_all, drop-drop}
 use Rattle.shader_model.specs.declared.ids.Ids.{Ids}
 use Rattle.shader_model.specs.Invocation.{Slots}
-use Rattle.spirv_words.specs.Op.{Op}
-use Rattle.spirv_words.specs.Op as op
-use Rattle.spirv_words.specs.StorageClass as class
-use Rattle.spirv_words.specs.Operands.{Verdict}
-use Rattle.spirv_words.specs.FirstBad.{reading}
-use Rattle.spirv_words.specs.Meaning.Values.{Value, Nothing, Word, Truth, At, ToVariable, ToBuffer, ToLengths, ToInput, of_one, of_two, selected, component, new_word, new_if_equal}
-use Rattle.spirv_words.specs.Decoration as decoration
-use Rattle.spirv_words.specs.Meaning.Memory.{Memory, with_result, with_variable, decorated, outer_variable, pointer_by, chained, values_of, loaded, stored, changed}
-use Rattle.spirv_words.specs.Meaning.ModuleMeaning.{Run, results_in, leaves, variable, first_value, after_label, goes_to, jumps, chooses, enters, step, steps, runs, run_whole, begun, reading_of, limit_of, module_meaning}
+use Rattle.spirv_model.specs.Op.{Op}
+use Rattle.spirv_model.specs.Op as op
+use Rattle.spirv_model.specs.declared.storage_classes.TheConstants as class
+use Rattle.spirv_model.specs.Operands.{Verdict}
+use Rattle.spirv_model.specs.FirstBad.{reading}
+use Rattle.spirv_model.specs.Meaning.Values.{Value, Nothing, Word, Truth, At, ToVariable, ToBuffer, ToLengths, ToInput, of_one, of_two, selected, component, new_word, new_if_equal}
+use Rattle.spirv_model.specs.declared.decorations.TheConstants as decoration
+use Rattle.spirv_model.specs.Meaning.Memory.{Memory, with_result, with_variable, decorated, outer_variable, pointer_by, chained, values_of, loaded, stored, changed}
+use Rattle.spirv_model.specs.Meaning.ModuleMeaning.{Run, results_in, leaves, variable, first_value, after_label, goes_to, jumps, chooses, enters, step, steps, runs, run_whole, begun, reading_of, limit_of, module_meaning}
 use Rattle.spirv_run.specs.declared.step.Step.{Step}
 use Rattle.spirv_run.specs.declared.step.Step.TheVariants as held
 use Rattle.spirv_run.specs.declared.step.Source.TheVariants as source
@@ -84,7 +84,7 @@ module _ (ids : Ids) (all : List Op) (go : Run) (none : (m : Memory) → go [] m
       ≡ continued all go (done ids (if b then held.Variable r (head_of vs) else outer c r all) next m)
   declares_by rest next r c m vs true e = begins rest next r m vs e
   declares_by rest next r c m vs false e =
-      points rest next r m (c == class.input) (c == class.push_constant) (c == class.storage_buffer) (decorated decoration.built_in r all) (decorated decoration.binding r all) e
+      points rest next r m (c == class.INPUT) (c == class.PUSH_CONSTANT) (c == class.STORAGE_BUFFER) (decorated decoration.BUILT_IN r all) (decorated decoration.BINDING r all) e
 
   chained_none : (slots : Slots) (base : Option Value) → chained slots base [] ≡ None
   chained_none slots (Some (At (ToBuffer b))) = refl
@@ -123,7 +123,7 @@ module _ (ids : Ids) (all : List Op) (go : Run) (none : (m : Memory) → go [] m
   step_same : (o : Op) (rest : List Op) (next : ℕ) (m : Memory) → drop next all ≡ rest
       → step ids all o rest go m ≡ continued all go (done ids (step_of all o (begins_with_label rest) next) next m)
   step_same (op.Constant t r v) rest k m e = gives rest k r m (Some (Word v)) e
-  step_same (op.Variable t r c vs) rest k m e = declares_by rest k r c m vs (c == class.function) e
+  step_same (op.Variable t r c vs) rest k m e = declares_by rest k r c m vs (c == class.FUNCTION) e
   step_same (op.Function t r c f) rest k m e = enters_on rest k m e
   step_same op.FunctionEnd rest k m e = refl
   step_same (op.Load t r p) rest k m e = gives rest k r m (loaded ids m (m.results p)) e

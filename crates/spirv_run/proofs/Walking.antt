@@ -1,20 +1,17 @@
--- The invocations of a dispatch, one row after another.
-use Rattle.std.proofs.Common.{◌≡◌, ℕ, zero, suc, ◌+◌, ◌*◌, ◌<◌, ◌≤◌, Some, None, Option, List, [], ◌∷◌, ◌++◌, length, refl, sym, ap, ◌∙◌, add-one, append-nil, arith}
+-- The invocations of a dispatch, one after another.
+use Rattle.std.proofs.Common.{◌≡◌, ℕ, zero, suc, ◌+◌, ◌*◌, ◌<◌, ◌≤◌, Some, None, Option, List, [], ◌∷◌, ◌++◌, length, refl, sym, ap, ◌∙◌, map, arith}
 use Rattle.std.specs.Prelude.{flat_map, slice_index, All, Bool, true, false, if◌then◌else◌, nat_lt, ◌-◌, IsSome}
 use Rattle.std.proofs.Math.Nat.{mul-le-mul, le-mul_of_pos_right, mul_comm, mul_assoc}
 use Rattle.std.proofs.lemmas.Nat.{mul-add-lt}
-use Rattle.std.proofs.lemmas.Grind.{flat_map-append}
 use Rattle.std.proofs.lemmas.List.Elements.{All-from_get_or}
 use Rattle.shader_model.specs.declared.ids.Ids.{Ids}
 use Rattle.shader_model.specs.Invocation.{Slots, words_in}
-use Rattle.shader_model.specs.Dispatch.{below, volume}
+use Rattle.shader_model.specs.Dispatch.{in_group, group_invocations, volume}
+use Rattle.shader_model.specs.PlacesLeft.{IsBelow}
 use Rattle.shader_slots.specs.Bound.{WithinLimit}
-use Rattle.shader_eval.specs.Threads.{IsBelow}
-use Rattle.shader_eval.specs.Walks.{along, all_of}
-use Rattle.shader_eval.proofs.Walking.{all_in_order}
-use Rattle.spirv_words.specs.Meaning.Bindings.{SlotsFit, first_read, first_write, end_of_bindings}
-use Rattle.spirv_words.specs.Meaning.ModuleMeaning.{module_meaning}
-use Rattle.spirv_words.specs.Meaning.ModuleDispatch.{InRange, run_all, then_run, module_dispatched, group_of}
+use Rattle.spirv_model.specs.Meaning.Bindings.{SlotsFit, first_read, first_write, end_of_bindings}
+use Rattle.spirv_model.specs.Meaning.ModuleMeaning.{module_meaning}
+use Rattle.spirv_model.specs.Meaning.ModuleDispatch.{InRange, run_all, then_run, module_dispatched, group_of}
 use Rattle.spirv_run.specs.Threads.{IsPlaced, IsAllowed}
 
 -- ## In order
@@ -28,19 +25,27 @@ run_both : (w : List ℕ) (xs ys : List Ids) (s : Slots) → run_all w (xs ++ ys
 run_both w [] ys s = refl
 run_both w (x ∷ xs) ys s = run_first w xs ys (module_meaning w x s) (λ t. run_both w xs ys t)
 
--- one number more
-pub one_further : (w : List ℕ) (f : ℕ → List Ids) (i : ℕ) (s now after : Slots) → Some now ≡ run_all w (along i f) s → Some after ≡ run_all w (f i) now → Some after ≡ run_all w (along (i + 1) f) s
-one_further w f i s now after h k =
-    let last : flat_map f (below (suc i)) ≡ flat_map f (below i) ++ (f i ++ []) = flat_map-append f (below i) (i ∷ []) in
-    let all : along (i + 1) f ≡ along i f ++ f i = ap (λ n. along n f) (add-one i) ∙ last ∙ ap (λ z. along i f ++ z) (append-nil (f i)) in
-    k ∙ ap (λ r. then_run r (run_all w (f i))) h ∙ sym (run_both w (along i f) (f i) s) ∙ ap (λ z. run_all w z s) (sym all)
+-- a thread more of a group
+pub one_thread : (w size group t : List ℕ) (before ts : List (List ℕ)) (now after : Slots) → before ≡ t ∷ ts → Some after ≡ module_meaning w (in_group size group t) now
+    → run_all w (map (in_group size group) ts) after ≡ run_all w (map (in_group size group) before) now
+one_thread w size group t before ts now after e h =
+    ap (λ r. then_run r (run_all w (map (in_group size group) ts))) h ∙ ap (λ l. run_all w (map (in_group size group) l) now) (sym e)
 
--- one invocation is a list of one
-pub one_thread : (w : List ℕ) (ids : Ids) (s t : Slots) → Some t ≡ module_meaning w ids s → Some t ≡ run_all w (ids ∷ []) s
-one_thread w ids s t h = ap (λ r. then_run r (run_all w [])) h
+-- no thread more
+pub no_thread : (w size group : List ℕ) (before : List (List ℕ)) (now : Slots) → before ≡ [] → Some now ≡ run_all w (map (in_group size group) before) now
+no_thread w size group before now e = ap (λ l. run_all w (map (in_group size group) l) now) (sym e)
 
-pub dispatched_all : (w groups : List ℕ) (s t : Slots) → Some t ≡ run_all w (all_of groups (group_of w)) s → Some t ≡ module_dispatched w groups s
-dispatched_all w groups s t h = h ∙ ap (λ z. run_all w z s) (all_in_order groups (group_of w))
+-- a group more
+pub one_group : (w size g : List ℕ) (before gs : List (List ℕ)) (now after : Slots) → before ≡ g ∷ gs → Some after ≡ run_all w (group_invocations size g) now
+    → run_all w (flat_map (group_invocations size) gs) after ≡ run_all w (flat_map (group_invocations size) before) now
+one_group w size g before gs now after e h =
+    ap (λ r. then_run r (run_all w (flat_map (group_invocations size) gs))) h
+    ∙ sym (run_both w (group_invocations size g) (flat_map (group_invocations size) gs) now)
+    ∙ ap (λ l. run_all w (flat_map (group_invocations size) l) now) (sym e)
+
+-- no group more
+pub no_group : (w size : List ℕ) (before : List (List ℕ)) (now : Slots) → before ≡ [] → Some now ≡ run_all w (flat_map (group_invocations size) before) now
+no_group w size before now e = ap (λ l. run_all w (flat_map (group_invocations size) l) now) (sym e)
 
 -- an invocation that has an outcome came to its end
 pub has_outcome : (b : Bool) (r : Option Slots) (t : Slots) → IsSome r → r ≡ (if b then Some t else None) → Some t ≡ r
@@ -179,12 +184,3 @@ slots_fit s h = record {
       (each (words_in s.constants b) (h.constant_words b)) (each (words_in s.reads (b - first_read)) (h.read_words (b - first_read)))
       (each (words_in s.writes (b - first_write)) (h.write_words (b - first_write))) (each [] (λ i. omega arith));
 }
-
--- ## Places
-
--- the place x, y, z is below sizes that are above each
-pub below_three : (x y z : ℕ) (size : List ℕ) → x < slice_index size 0 → y < slice_index size 1 → z < slice_index size 2 → IsBelow (x ∷ y ∷ z ∷ []) size
-below_three x y z size hx hy hz zero lt = hx
-below_three x y z size hx hy hz (suc zero) lt = hy
-below_three x y z size hx hy hz (suc (suc zero)) lt = hz
-below_three x y z size hx hy hz (suc (suc (suc c))) lt = absurd (omega arith)

@@ -2,12 +2,12 @@
 use Rattle.std.specs.Prelude.{ℕ, ◌+◌, ◌==◌, ◌≡◌, Bool, true, false, if◌then◌else◌, List, [], ◌∷◌, length, Option, Some, None, unwrap_or}
 use Rattle.std.specs.Ordering.{nat_cmp}
 use Rattle.std.specs.BTreeMap.{get}
-use Rattle.spirv_words.specs.Op.{Op}
-use Rattle.spirv_words.specs.Op as op
-use Rattle.spirv_words.specs.StorageClass as class
-use Rattle.spirv_words.specs.Decoration as decoration
-use Rattle.spirv_words.specs.Meaning.Memory.{decorated}
-use Rattle.spirv_words.specs.Meaning.ModuleMeaning.{reading_of}
+use Rattle.spirv_model.specs.Op.{Op}
+use Rattle.spirv_model.specs.Op as op
+use Rattle.spirv_model.specs.declared.storage_classes.TheConstants as class
+use Rattle.spirv_model.specs.declared.decorations.TheConstants as decoration
+use Rattle.spirv_model.specs.Meaning.Memory.{decorated}
+use Rattle.spirv_model.specs.Meaning.ModuleMeaning.{reading_of}
 use Rattle.spirv_run.specs.declared.value.Pointer.{Pointer}
 use Rattle.spirv_run.specs.declared.value.Pointer.TheVariants as pointer
 use Rattle.spirv_run.specs.declared.step.Step.{Step}
@@ -28,8 +28,8 @@ behind all l = unwrap_or (place_behind l 0 all) (length all)
 -- what the tables of names have of instructions from a place on: the places behind labels, and two kinds of decorations
 pub record Knows (names : Names) (at : ℕ) (ops : List Op) : Type 0 where
   pub labels : (x : ℕ) → get nat_cmp names.labels x ≡ place_behind x at ops
-  pub built_ins : (x : ℕ) → get nat_cmp names.built_ins x ≡ decorated decoration.built_in x ops
-  pub bindings : (x : ℕ) → get nat_cmp names.bindings x ≡ decorated decoration.binding x ops
+  pub built_ins : (x : ℕ) → get nat_cmp names.built_ins x ≡ decorated decoration.BUILT_IN x ops
+  pub bindings : (x : ℕ) → get nat_cmp names.bindings x ≡ decorated decoration.BINDING x ops
 
 -- ## Steps
 
@@ -40,9 +40,9 @@ outer_by f r (Some n) = step.Give r (source.Outer (f n))
 -- a variable outside of the function
 abbrev pub outer : (c r : ℕ) → List Op → Step
 outer c r all =
-    if c == class.input then outer_by pointer.Input r (decorated decoration.built_in r all)
-    else if c == class.push_constant then step.Give r (source.Outer pointer.Lengths)
-    else if c == class.storage_buffer then outer_by pointer.Buffer r (decorated decoration.binding r all)
+    if c == class.INPUT then outer_by pointer.Input r (decorated decoration.BUILT_IN r all)
+    else if c == class.PUSH_CONSTANT then step.Give r (source.Outer pointer.Lengths)
+    else if c == class.STORAGE_BUFFER then outer_by pointer.Buffer r (decorated decoration.BINDING r all)
     else step.Stuck
 
 abbrev pub head_of : List ℕ → Option ℕ
@@ -65,7 +65,7 @@ begins_with_label (o ∷ os) = is_label o
 -- the step of an instruction, with the place behind it, and whether a label stands there
 abbrev pub step_of : (all : List Op) → Op → (label_next : Bool) → (next : ℕ) → Step
 step_of all (op.Constant t r v) l k = step.Give r (source.Constant v)
-step_of all (op.Variable t r c vs) l k = if c == class.function then step.Variable r (head_of vs) else outer c r all
+step_of all (op.Variable t r c vs) l k = if c == class.FUNCTION then step.Variable r (head_of vs) else outer c r all
 step_of all (op.Function t r c f) l k = if l then step.Jump (k + 1) else step.Stuck
 step_of all op.FunctionEnd l k = step.Stuck
 step_of all (op.Load t r p) l k = step.Give r (source.Load p)

@@ -1,8 +1,8 @@
 -- What the program's values show, and the memory that a frame and slots stand for.
 use Rattle.std.specs.Prelude.{List, Option, None, option_map, slice_index_or}
 use Rattle.shader_model.specs.Invocation.{Slots}
-use Rattle.spirv_words.specs.Meaning.Values.{Pointer, ToVariable, ToBuffer, ToWord, ToLengths, ToLength, ToInput, Value, Nothing, Word, Truth, Vector, Halves, At}
-use Rattle.spirv_words.specs.Meaning.Memory.{Table, Memory}
+use Rattle.spirv_model.specs.Meaning.Values.{Pointer, ToVariable, ToBuffer, ToWord, ToLengths, ToLength, ToInput, Value, Nothing, Word, Truth, Vector, Halves, At}
+use Rattle.spirv_model.specs.Meaning.Memory.{Table, Memory}
 use Rattle.spirv_run.specs.declared.value.Pointer.{Pointer as Held}
 use Rattle.spirv_run.specs.declared.value.Pointer.TheVariants as pointer
 use Rattle.spirv_run.specs.declared.value.Value.{Value as HeldValue}

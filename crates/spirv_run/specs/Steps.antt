@@ -2,10 +2,10 @@
 use Rattle.std.specs.Prelude.{ℕ, ◌+◌, max, if◌then◌else◌, List, [], ◌∷◌, drop, Option, Some, None}
 use Rattle.shader_model.specs.declared.ids.Ids.{Ids}
 use Rattle.shader_model.specs.Invocation.{Slots}
-use Rattle.spirv_words.specs.Op.{Op}
-use Rattle.spirv_words.specs.Meaning.Values.{Value, Nothing, Word, Truth, At, ToVariable, of_one, of_two, selected, component, new_word, new_if_equal}
-use Rattle.spirv_words.specs.Meaning.Memory.{Memory, with_result, with_variable, chained, loaded, stored, changed}
-use Rattle.spirv_words.specs.Meaning.ModuleMeaning.{Run}
+use Rattle.spirv_model.specs.Op.{Op}
+use Rattle.spirv_model.specs.Meaning.Values.{Value, Nothing, Word, Truth, At, ToVariable, of_one, of_two, selected, component, new_word, new_if_equal}
+use Rattle.spirv_model.specs.Meaning.Memory.{Memory, with_result, with_variable, chained, loaded, stored, changed}
+use Rattle.spirv_model.specs.Meaning.ModuleMeaning.{Run}
 use Rattle.spirv_run.specs.declared.step.Step.{Step}
 use Rattle.spirv_run.specs.declared.step.Step.TheVariants as step
 use Rattle.spirv_run.specs.declared.step.Source.{Source}

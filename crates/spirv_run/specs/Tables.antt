@@ -2,8 +2,8 @@
 use Rattle.std.specs.Prelude.{ℕ, ◌+◌, ◌*◌, ◌≡◌, ◌≤◌, List, length, drop, vec_len}
 use Rattle.shader_model.specs.declared.ids.Ids.{Ids}
 use Rattle.shader_model.specs.Invocation.{Slots}
-use Rattle.spirv_words.specs.Meaning.ModuleDispatch.{group_of}
-use Rattle.spirv_words.specs.Meaning.ModuleMeaning.{runs, begun}
+use Rattle.spirv_model.specs.Meaning.ModuleDispatch.{group_of}
+use Rattle.spirv_model.specs.Meaning.ModuleMeaning.{runs, begun}
 use Rattle.spirv_run.specs.declared.step.Step.{Step}
 use Rattle.spirv_run.specs.declared.frame.Frame.{Frame}
 use Rattle.spirv_run.specs.Held.{memory_of}

@@ -1,7 +1,7 @@
 // The words of slots by the bindings of a module.
 
 ghost use Rattle.std.specs.Prelude.{◌≡◌, ◌≤◌, length, slice_index, IsTrue};
-ghost use Rattle.spirv_words.specs.Meaning.Bindings as model;
+ghost use Rattle.spirv_model.specs.Meaning.Bindings as model;
 ghost use Rattle.dx_types.specs.declared.limits.TheConstants.{MAX_BUFFER_WORDS};
 
 use dx_types::limits::{FIRST_SRV_BINDING, FIRST_UAV_BINDING, MODULE_BINDINGS};

@@ -1,10 +1,10 @@
 // From a module's words to the steps of its table.
 
 ghost use Rattle.std.specs.Prelude.{◌≡◌, ◌<◌, ◌+◌, ◌^◌, ◌==◌, if◌then◌else◌, map, drop, length, IfOk};
-ghost use Rattle.spirv_words.specs.FirstBad.{reading};
-ghost use Rattle.spirv_words.specs.Meaning.ModuleMeaning.{behind_header};
-ghost use Rattle.spirv_words.specs.Meaning.ModuleDispatch.{local_size};
-ghost use Rattle.spirv_words.specs.View.{shown};
+ghost use Rattle.spirv_model.specs.FirstBad.{reading};
+ghost use Rattle.spirv_model.specs.Meaning.ModuleMeaning.{behind_header};
+ghost use Rattle.spirv_model.specs.Meaning.ModuleDispatch.{local_size};
+ghost use Rattle.spirv_model.specs.View.{shown};
 ghost use Rattle.std.specs.Ordering.{nat_cmp};
 ghost use Rattle.std.specs.BTreeMap.{get};
 ghost use Rattle.spirv_run.specs.declared.value.Pointer.TheVariants as pointer;
@@ -15,17 +15,10 @@ ghost use Rattle.spirv_run.specs.Decoding.{Knows, behind, outer, chain, head_of,
 use crate::names::Names;
 use crate::step::{Source, Step, end_of};
 use crate::value::Pointer;
-use spirv_words::{FrontView, Op, front_of};
+use spirv_model::Op;
+use spirv_model::storage_classes::{FUNCTION, INPUT, PUSH_CONSTANT, STORAGE_BUFFER};
+use spirv_words::{FrontView, front_of};
 use std::alloc::{AllocError, Global};
-
-/// The storage classes.
-const INPUT: u32 = 1;
-
-const FUNCTION: u32 = 7;
-
-const PUSH_CONSTANT: u32 = 9;
-
-const STORAGE_BUFFER: u32 = 12;
 
 /// The words behind a module's header.
 pub fn behind_header(words: &[u32]) -> &[u32]
@@ -158,7 +151,7 @@ fn head(ids: &[u32]) -> Option<u32>
 
 fn variable(names: &Names, ops: &[Op<'_>], class: u32, id: u32, first_value: &[u32]) -> Step
     requires { Knows names.now 0 (map shown ops.now) }
-    ensures { result ≡ (if class == 7 then step.Variable id (head_of first_value.now) else outer class id (map shown ops.now)) }
+    ensures { result ≡ (if class == FUNCTION then step.Variable id (head_of first_value.now) else outer class id (map shown ops.now)) }
 {
     if class == FUNCTION {
         Step::Variable {

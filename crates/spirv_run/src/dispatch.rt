@@ -1,12 +1,11 @@
 // All invocations of a dispatch: groups by z, then y, then x, with x changing fastest, and the threads of a group
 // likewise.
 
-ghost use Rattle.std.specs.Prelude.{◌≡◌, ◌*◌, ◌<◌, ◌^◌, length, slice_index, Some};
-ghost use Rattle.shader_model.specs.Dispatch.{volume};
-ghost use Rattle.shader_eval.specs.Threads.{IsBelow};
-ghost use Rattle.shader_eval.specs.Walks.{row_at, plane_at, threads_of, row_of_groups, plane_of_groups, all_of};
-ghost use Rattle.spirv_words.specs.Meaning.ModuleDispatch.{IsDefined, group_of, run_all, module_dispatched};
-ghost use Rattle.spirv_words.specs.Meaning.ModuleMeaning.{module_meaning};
+ghost use Rattle.std.specs.Prelude.{◌≡◌, ◌*◌, length, Some};
+ghost use Rattle.shader_model.specs.Dispatch.{group_invocations, invocations, volume};
+ghost use Rattle.shader_model.specs.PlacesLeft.{IsBelow};
+ghost use Rattle.spirv_model.specs.Meaning.ModuleDispatch.{IsDefined, group_of, run_all, module_dispatched};
+ghost use Rattle.spirv_model.specs.Meaning.ModuleMeaning.{module_meaning};
 ghost use Rattle.spirv_run.specs.Tables.{HasRoom};
 ghost use Rattle.spirv_run.specs.Threads.{IsAllowed};
 
@@ -14,7 +13,7 @@ use crate::frame::Frame;
 use crate::run::invoke;
 use crate::table::Table;
 use crate::thread::Thread;
-use shader_model::Ids;
+use shader_model::{Ids, Places, volume};
 use shader_slots::Slots;
 
 /// There is a place along each of x, y and z.
@@ -52,58 +51,6 @@ fn run_thread(
     let _ = invoke(table, &thread, frame, slots);
 }
 
-/// The threads of a row of a group.
-fn run_row(
-    table: &Table<'_>,
-    groups: [u32; 3],
-    group: [u32; 3],
-    z: u32,
-    y: u32,
-    frame: &mut Frame,
-    slots: &mut Slots<'_>,
-)
-    requires defined { IsDefined table.now }
-    requires allowed { IsAllowed groups (group_of table.now) }
-    requires room { HasRoom frame.old table.now }
-    requires group { IsBelow group groups }
-    requires y { y < slice_index (group_of table.now) 1 }
-    requires z { z < slice_index (group_of table.now) 2 }
-    ensures words { Some slots.new.words ≡ run_all table.now (row_at group (group_of table.now) z y) slots.old.words }
-    ensures around { slots.new.around ≡ slots.old.around }
-    ensures room { HasRoom frame.new table.now }
-{
-    let size = table.group();
-    let width = size[0];
-    for x in 0..width {
-        run_thread(table, groups, group, [x, y, z], frame, slots);
-    }
-}
-
-/// The threads of a plane of a group.
-fn run_plane(
-    table: &Table<'_>,
-    groups: [u32; 3],
-    group: [u32; 3],
-    z: u32,
-    frame: &mut Frame,
-    slots: &mut Slots<'_>,
-)
-    requires defined { IsDefined table.now }
-    requires allowed { IsAllowed groups (group_of table.now) }
-    requires room { HasRoom frame.old table.now }
-    requires group { IsBelow group groups }
-    requires z { z < slice_index (group_of table.now) 2 }
-    ensures words { Some slots.new.words ≡ run_all table.now (plane_at group (group_of table.now) z) slots.old.words }
-    ensures around { slots.new.around ≡ slots.old.around }
-    ensures room { HasRoom frame.new table.now }
-{
-    let size = table.group();
-    let height = size[1];
-    for y in 0..height {
-        run_row(table, groups, group, z, y, frame, slots);
-    }
-}
-
 /// The threads of a group.
 fn run_group(
     table: &Table<'_>,
@@ -116,60 +63,13 @@ fn run_group(
     requires allowed { IsAllowed groups (group_of table.now) }
     requires room { HasRoom frame.old table.now }
     requires group { IsBelow group groups }
-    ensures words { Some slots.new.words ≡ run_all table.now (threads_of group (group_of table.now)) slots.old.words }
+    ensures words { Some slots.new.words ≡ run_all table.now (group_invocations (group_of table.now) group) slots.old.words }
     ensures around { slots.new.around ≡ slots.old.around }
     ensures room { HasRoom frame.new table.now }
 {
-    let size = table.group();
-    let depth = size[2];
-    for z in 0..depth {
-        run_plane(table, groups, group, z, frame, slots);
-    }
-}
-
-/// The groups of a row of a dispatch.
-fn run_row_of_groups(
-    table: &Table<'_>,
-    groups: [u32; 3],
-    z: u32,
-    y: u32,
-    frame: &mut Frame,
-    slots: &mut Slots<'_>,
-)
-    requires defined { IsDefined table.now }
-    requires allowed { IsAllowed groups (group_of table.now) }
-    requires room { HasRoom frame.old table.now }
-    requires y { y < slice_index groups 1 }
-    requires z { z < slice_index groups 2 }
-    ensures words { Some slots.new.words ≡ run_all table.now (row_of_groups groups (group_of table.now) z y) slots.old.words }
-    ensures around { slots.new.around ≡ slots.old.around }
-    ensures room { HasRoom frame.new table.now }
-{
-    let width = groups[0];
-    for x in 0..width {
-        run_group(table, groups, [x, y, z], frame, slots);
-    }
-}
-
-/// The groups of a plane of a dispatch.
-fn run_plane_of_groups(
-    table: &Table<'_>,
-    groups: [u32; 3],
-    z: u32,
-    frame: &mut Frame,
-    slots: &mut Slots<'_>,
-)
-    requires defined { IsDefined table.now }
-    requires allowed { IsAllowed groups (group_of table.now) }
-    requires room { HasRoom frame.old table.now }
-    requires z { z < slice_index groups 2 }
-    ensures words { Some slots.new.words ≡ run_all table.now (plane_of_groups groups (group_of table.now) z) slots.old.words }
-    ensures around { slots.new.around ≡ slots.old.around }
-    ensures room { HasRoom frame.new table.now }
-{
-    let height = groups[1];
-    for y in 0..height {
-        run_row_of_groups(table, groups, z, y, frame, slots);
+    let mut threads = Places::below(table.group());
+    'threads: while let Some(thread) = threads.next() {
+        run_thread(table, groups, group, thread, frame, slots);
     }
 }
 
@@ -178,22 +78,14 @@ fn run_all_groups(table: &Table<'_>, groups: [u32; 3], frame: &mut Frame, slots:
     requires defined { IsDefined table.now }
     requires allowed { IsAllowed groups (group_of table.now) }
     requires room { HasRoom frame.old table.now }
-    ensures words { Some slots.new.words ≡ run_all table.now (all_of groups (group_of table.now)) slots.old.words }
+    ensures words { Some slots.new.words ≡ run_all table.now (invocations groups (group_of table.now)) slots.old.words }
     ensures around { slots.new.around ≡ slots.old.around }
     ensures room { HasRoom frame.new table.now }
 {
-    let depth = groups[2];
-    for z in 0..depth {
-        run_plane_of_groups(table, groups, z, frame, slots);
+    let mut places = Places::below(groups);
+    'groups: while let Some(group) = places.next() {
+        run_group(table, groups, group, frame, slots);
     }
-}
-
-/// How many places there are below sizes.
-fn volume(sizes: [u32; 3]) -> u64
-    requires { volume sizes < 2 ^ 64 }
-    ensures { result ≡ volume sizes }
-{
-    sizes[0] as u64 * sizes[1] as u64 * sizes[2] as u64
 }
 
 /// How many invocations so many groups of a size have.
@@ -201,11 +93,7 @@ fn count(groups: [u32; 3], size: [u32; 3]) -> u64
     requires { IsAllowed groups size }
     ensures { result ≡ volume groups * volume size }
 {
-    let places = volume(groups);
-    if places == 0 {
-        return 0;
-    }
-    places * volume(size)
+    (volume(groups) * volume(size)) as u64
 }
 
 /// Runs the invocations of so many groups in index order, and answers how many ran. The frame is one that was made for

@@ -2,8 +2,8 @@
 
 ghost use Rattle.std.specs.Prelude.{◌≡◌, ◌<◌, List, ℕ, option_map, vec_len, IfOk, OnSome, Some};
 ghost use Rattle.shader_model.specs.Invocation as model;
-ghost use Rattle.spirv_words.specs.Meaning.Memory.{with_result, with_variable};
-ghost use Rattle.spirv_words.specs.Meaning.ModuleMeaning.{begun};
+ghost use Rattle.spirv_model.specs.Meaning.Memory.{with_result, with_variable};
+ghost use Rattle.spirv_model.specs.Meaning.ModuleMeaning.{begun};
 ghost use Rattle.spirv_run.specs.Held.{shown, table_of, memory_of};
 ghost use Rattle.spirv_run.specs.Steps.{reached, result_in, variable_in};
 

@@ -2,7 +2,7 @@
 
 ghost use Rattle.std.specs.Prelude.{◌≡◌, ◌*◌, ◌<◌, ◌≤◌, ℕ, slice_index, IfOk, Some};
 ghost use Rattle.shader_model.specs.Dispatch.{volume};
-ghost use Rattle.spirv_words.specs.Meaning.ModuleDispatch.{IsDefined, group_of, module_dispatched};
+ghost use Rattle.spirv_model.specs.Meaning.ModuleDispatch.{IsDefined, group_of, module_dispatched};
 ghost use Rattle.dx_types.specs.declared.limits.TheConstants.{MAX_GROUPS, MAX_INVOCATIONS};
 
 use crate::dispatch::run_groups;

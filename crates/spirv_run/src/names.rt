@@ -3,18 +3,14 @@
 ghost use Rattle.std.specs.Prelude.{◌≡◌, ◌<◌, ◌+◌, ◌^◌, ◌==◌, if◌then◌else◌, ◌∷◌, [], ℕ, List, Some, map, OnOk, IfOk};
 ghost use Rattle.std.specs.Ordering.{nat_cmp};
 ghost use Rattle.std.specs.BTreeMap.{get};
-ghost use Rattle.spirv_words.specs.Op as model;
-ghost use Rattle.spirv_words.specs.View.{shown};
+ghost use Rattle.spirv_model.specs.Op as model;
+ghost use Rattle.spirv_model.specs.View.{shown};
 ghost use Rattle.spirv_run.specs.Decoding.{Knows};
 
-use spirv_words::Op;
+use spirv_model::Op;
+use spirv_model::decorations::{BINDING, BUILT_IN};
 use std::alloc::{AllocError, Global};
 use std::collections::BTreeMap;
-
-/// The decorations BuiltIn and Binding.
-const BUILT_IN: u32 = 11;
-
-const BINDING: u32 = 33;
 
 /// By id: the places behind labels, the numbers of built-ins, and the bindings of buffers.
 #[derive(Drop)]
@@ -50,8 +46,8 @@ impl Names {
     /// Adds a decoration with its first value.
     fn add_decoration(&mut self, target: u32, decoration: u32, value: u32) -> Result<(), AllocError>
         ensures labels { self.new.labels ≡ self.old.labels }
-        ensures built_ins { OnOk result ((x : ℕ) → get nat_cmp self.new.built_ins x ≡ (if target == x then (if decoration == 11 then Some value else get nat_cmp self.old.built_ins x) else get nat_cmp self.old.built_ins x)) }
-        ensures bindings { OnOk result ((x : ℕ) → get nat_cmp self.new.bindings x ≡ (if target == x then (if decoration == 33 then Some value else get nat_cmp self.old.bindings x) else get nat_cmp self.old.bindings x)) }
+        ensures built_ins { OnOk result ((x : ℕ) → get nat_cmp self.new.built_ins x ≡ (if target == x then (if decoration == BUILT_IN then Some value else get nat_cmp self.old.built_ins x) else get nat_cmp self.old.built_ins x)) }
+        ensures bindings { OnOk result ((x : ℕ) → get nat_cmp self.new.bindings x ≡ (if target == x then (if decoration == BINDING then Some value else get nat_cmp self.old.bindings x) else get nat_cmp self.old.bindings x)) }
     {
         if decoration == BUILT_IN {
             if self.built_ins.insert(target, value).is_err() {

@@ -2,13 +2,13 @@
 
 ghost use Rattle.std.specs.Prelude.{◌≡◌, option_map, Some};
 ghost use Rattle.shader_model.specs.Arithmetic as numbers;
-ghost use Rattle.spirv_words.specs.declared.code.BinaryCode.TheVariants as binary;
-ghost use Rattle.spirv_words.specs.Meaning.Values as model;
+ghost use Rattle.spirv_model.specs.declared.code.BinaryCode.TheVariants as binary;
+ghost use Rattle.spirv_model.specs.Meaning.Values as model;
 ghost use Rattle.spirv_run.specs.Held.{shown};
 
 use crate::value::Value;
 use shader_eval::arithmetic;
-use spirv_words::{AtomicCode, BinaryCode, UnaryCode};
+use spirv_model::{AtomicCode, BinaryCode, UnaryCode};
 
 fn of_word(code: UnaryCode, x: u32) -> Option<Value>
     ensures { option_map shown result ≡ model.of_word code x }

@@ -2,9 +2,9 @@
 
 ghost use Rattle.std.specs.Prelude.{◌≡◌, ◌<◌, [], ◌∷◌, option_map, slice_index, vec_len, Some};
 ghost use Rattle.shader_model.specs.Invocation as invocation;
-ghost use Rattle.spirv_words.specs.Meaning.Values.{new_word, new_if_equal, At, ToVariable};
-ghost use Rattle.spirv_words.specs.Meaning.Bindings.{words_at};
-ghost use Rattle.spirv_words.specs.Meaning.Memory as model;
+ghost use Rattle.spirv_model.specs.Meaning.Values.{new_word, new_if_equal, At, ToVariable};
+ghost use Rattle.spirv_model.specs.Meaning.Bindings.{words_at};
+ghost use Rattle.spirv_model.specs.Meaning.Memory as model;
 ghost use Rattle.spirv_run.specs.declared.frame.Frame.{Frame};
 ghost use Rattle.spirv_run.specs.Held.{shown, pointer_of, memory_of};
 ghost use Rattle.spirv_run.specs.Steps.{reached, left_in};
@@ -17,7 +17,7 @@ use crate::thread::Thread;
 use crate::value::{Pointer, Value};
 use dx_types::limits::MODULE_BINDINGS;
 use shader_slots::Slots;
-use spirv_words::AtomicCode;
+use spirv_model::AtomicCode;
 
 /// A pointer to a push constant.
 pub fn member(slots: &Slots<'_>, base: Option<Value>, index: Option<Value>) -> Option<Value>

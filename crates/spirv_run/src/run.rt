@@ -2,7 +2,7 @@
 
 ghost use Rattle.std.specs.Prelude.{◌≡◌, ◌+◌, ◌≤◌, ℕ, drop, option_map, vec_len, if◌then◌else◌, Some, None};
 ghost use Rattle.shader_model.specs.Invocation as model;
-ghost use Rattle.spirv_words.specs.Meaning.ModuleMeaning.{runs, reading_of, module_meaning};
+ghost use Rattle.spirv_model.specs.Meaning.ModuleMeaning.{runs, reading_of, module_meaning};
 ghost use Rattle.spirv_run.specs.Held.{shown, memory_of};
 ghost use Rattle.spirv_run.specs.Steps.{sourced, done, reached, continued, chosen_in, first_of, end_of};
 ghost use Rattle.spirv_run.specs.Decoding.{ops_of};

@@ -3,8 +3,8 @@
 ghost use Rattle.std.specs.Prelude.{◌≡◌, ◌≤◌, ℕ, List, length, vec_len, option_map, true, false, OnSome, Some};
 ghost use Rattle.shader_model.specs.declared.ids.Ids.{Ids};
 ghost use Rattle.shader_model.specs.Invocation as model;
-ghost use Rattle.spirv_words.specs.Meaning.Memory.{Memory};
-ghost use Rattle.spirv_words.specs.Meaning.ModuleMeaning.{begun};
+ghost use Rattle.spirv_model.specs.Meaning.Memory.{Memory};
+ghost use Rattle.spirv_model.specs.Meaning.ModuleMeaning.{begun};
 ghost use Rattle.spirv_run.specs.Held.{shown, memory_of};
 ghost use Rattle.spirv_run.specs.Steps.{Reaches, sourced, done, end_of, end_of_all};
 ghost use Rattle.spirv_run.specs.Decoding.{steps_of};

@@ -4,7 +4,7 @@ ghost use Rattle.std.specs.Prelude.{◌≡◌};
 ghost use Rattle.spirv_run.specs.Steps.{end_of};
 
 use crate::value::Pointer;
-use spirv_words::{AtomicCode, BinaryCode, UnaryCode};
+use spirv_model::{AtomicCode, BinaryCode, UnaryCode};
 
 /// Where a result comes from: each `u32` that is no literal is an id.
 #[derive(Clone, Copy)]

@@ -1,7 +1,7 @@
 // The table of a module: its steps, its group, and where its invocations start.
 
 ghost use Rattle.std.specs.Prelude.{◌≡◌, ◌+◌, ◌*◌, ◌<◌, ◌≤◌, ◌^◌, IfOk, OnSome, length, slice_get};
-ghost use Rattle.spirv_words.specs.Meaning.ModuleDispatch.{group_of};
+ghost use Rattle.spirv_model.specs.Meaning.ModuleDispatch.{group_of};
 ghost use Rattle.spirv_run.specs.Decoding.{steps_of};
 ghost use Rattle.spirv_run.specs.Tables.{ids_of, HasRoom, Leave};
 

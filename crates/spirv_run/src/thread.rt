@@ -2,13 +2,16 @@
 
 ghost use Rattle.std.specs.Prelude.{◌≡◌, option_map, Some};
 ghost use Rattle.shader_model.specs.Invocation.{flattened, global};
-ghost use Rattle.spirv_words.specs.Meaning.Values.{Vector};
-ghost use Rattle.spirv_words.specs.Meaning.Memory.{built_in};
+ghost use Rattle.spirv_model.specs.Meaning.Values.{Vector};
+ghost use Rattle.spirv_model.specs.Meaning.Memory.{built_in};
 ghost use Rattle.spirv_run.specs.Held.{shown};
 ghost use Rattle.spirv_run.specs.Threads.{IsPlaced};
 
 use crate::value::Value;
 use shader_model::Ids;
+use spirv_model::built_ins::{
+    GLOBAL_INVOCATION_ID, LOCAL_INVOCATION_ID, LOCAL_INVOCATION_INDEX, WORKGROUP_ID,
+};
 use std::marker::Model;
 
 /// The place of an invocation, none of whose numbers passes 32 bits. A clause sees its ids.
@@ -55,21 +58,21 @@ impl Thread {
         x + width * (y + height * z)
     }
 
-    /// What a built-in shows: WorkgroupId 26, LocalInvocationId 27, GlobalInvocationId 28, LocalInvocationIndex 29.
+    /// What a built-in shows.
     pub fn built_in(&self, number: u32) -> Option<Value>
         ensures { option_map shown result ≡ built_in self.now number }
     {
         match number {
-            26 => {
+            WORKGROUP_ID => {
                 let [x, y, z] = self.ids.group;
                 Some(Value::Vector(x, y, z))
             }
-            27 => {
+            LOCAL_INVOCATION_ID => {
                 let [x, y, z] = self.ids.thread;
                 Some(Value::Vector(x, y, z))
             }
-            28 => Some(self.global()),
-            29 => Some(Value::Word(self.flattened())),
+            GLOBAL_INVOCATION_ID => Some(self.global()),
+            LOCAL_INVOCATION_INDEX => Some(Value::Word(self.flattened())),
             _ => None,
         }
     }

@@ -2,15 +2,15 @@
 use Rattle.std.proofs.Common.{◌≡◌, ℕ, suc, zero, ◌+◌, ◌-◌, ◌/◌, ◌%◌, ◌==◌, ◌≤◌, Bool, true, false, if◌then◌else◌, List, [], ◌∷◌, ◌++◌, length, take, drop, Option, Some, None, refl, ap, sym, ◌∙◌, arith}
 use Rattle.std.specs.Prelude.{◌||◌, ◌&&◌, nat_lt, nat_le}
 use Rattle.std.proofs.lemmas.List.{length-append, take-append-drop}
-use Rattle.spirv_words.specs.declared.code.Opcode.{Opcode}
-use Rattle.spirv_words.specs.declared.code.Opcode.TheVariants as opcode
-use Rattle.spirv_words.specs.declared.fault.ModuleKind.TheVariants as kind
-use Rattle.spirv_words.specs.Op.{Op}
-use Rattle.spirv_words.specs.Op as op
-use Rattle.spirv_words.specs.Decoration.{values_of}
-use Rattle.spirv_words.specs.Table.{opcode_of, made_by, operands_of, from_0, from_1, from_2, from_3, from_4, from_5, from_6, from_8, from_1_and, from_4_and, is_counted, decorate_from, member_decorate_from, chain_from, variable_from}
-use Rattle.spirv_words.specs.Words.{Front, Instruction, BadCount, BadOpcode, front_of_made, front_of_opcode, front}
-use Rattle.spirv_words.specs.FirstBad.{Reading, read_more, read_front, reading, word_count}
+use Rattle.spirv_model.specs.declared.code.Opcode.{Opcode}
+use Rattle.spirv_model.specs.declared.code.Opcode.TheVariants as opcode
+use Rattle.spirv_model.specs.declared.fault.ModuleKind.TheVariants as kind
+use Rattle.spirv_model.specs.Op.{Op}
+use Rattle.spirv_model.specs.Op as op
+use Rattle.spirv_model.specs.Decoration.{values_of}
+use Rattle.spirv_model.specs.Table.{opcode_of, made_by, operands_of, from_0, from_1, from_2, from_3, from_4, from_5, from_6, from_8, from_1_and, from_4_and, is_counted, decorate_from, member_decorate_from, chain_from, variable_from}
+use Rattle.spirv_model.specs.Words.{Front, Instruction, BadCount, BadOpcode, front_of_made, front_of_opcode, front}
+use Rattle.spirv_model.specs.FirstBad.{Reading, read_more, read_front, reading, word_count}
 use Rattle.spirv_words.specs.Reading.{reading_of}
 
 -- ## An instruction has the operands that it is made of

@@ -4,12 +4,12 @@ use Rattle.std.specs.Prelude.{◌||◌, map}
 use Rattle.std.specs.List.{list_any}
 use Rattle.std.proofs.lemmas.List.{map-append}
 use Rattle.std.proofs.lemmas.List.Folds.{list_any-append}
-use Rattle.spirv_words.specs.declared.op.Op.{Op as View}
-use Rattle.spirv_words.specs.Op.{Op}
-use Rattle.spirv_words.specs.History.{after}
-use Rattle.spirv_words.specs.View.{shown}
-use Rattle.spirv_words.specs.Operands.{Verdict, or_else}
-use Rattle.spirv_words.specs.FirstBad.{first_fault}
+use Rattle.spirv_model.specs.declared.op.Op.{Op as View}
+use Rattle.spirv_model.specs.Op.{Op}
+use Rattle.spirv_model.specs.History.{after}
+use Rattle.spirv_model.specs.View.{shown}
+use Rattle.spirv_model.specs.Operands.{Verdict, or_else}
+use Rattle.spirv_model.specs.FirstBad.{first_fault}
 use Rattle.spirv_words.specs.Kept.{so_far}
 
 either : (a b : Bool) → (a || (b || false)) ≡ (b || a)

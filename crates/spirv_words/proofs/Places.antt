@@ -1,10 +1,10 @@
 -- The order of the sections behind an instruction.
 use Rattle.std.proofs.Common.{◌≡◌, if◌then◌else◌, true, List, [], ◌∷◌, Option, Some, None, refl, ap, ◌∙◌}
 use Rattle.std.specs.Prelude.{not, ◌&&◌}
-use Rattle.spirv_words.specs.Op.{Op}
-use Rattle.spirv_words.specs.Op as op
-use Rattle.spirv_words.specs.History.{in_function}
-use Rattle.spirv_words.specs.Sections.{section, follows, is_body, is_function_end, stands_inside, in_order}
+use Rattle.spirv_model.specs.Op.{Op}
+use Rattle.spirv_model.specs.Op as op
+use Rattle.spirv_model.specs.History.{in_function}
+use Rattle.spirv_model.specs.Sections.{section, follows, is_body, is_function_end, stands_inside, in_order}
 use Rattle.spirv_words.specs.Latest.{latest}
 
 -- an instruction has the same section where it counts itself

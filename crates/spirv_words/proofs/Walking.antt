@@ -3,15 +3,15 @@ use Rattle.std.proofs.Common.{◌≡◌, ℕ, suc, ◌+◌, ◌-◌, ◌<◌, �
 use Rattle.std.proofs.lemmas.List.{take_all}
 use Rattle.spirv_words.specs.declared.end.ModuleEnd.{ModuleEnd}
 use Rattle.spirv_words.specs.declared.end.ModuleEnd.TheVariants.{Bad, NoMemory}
-use Rattle.spirv_words.specs.declared.fault.ModuleFault.{ModuleFault}
-use Rattle.spirv_words.specs.declared.fault.ModuleKind.TheVariants as kind
-use Rattle.spirv_words.specs.Op.{Op}
-use Rattle.spirv_words.specs.History.{after}
-use Rattle.spirv_words.specs.Words.{Instruction, BadCount, BadOpcode, front}
-use Rattle.spirv_words.specs.Sections.{is_function_end}
+use Rattle.spirv_model.specs.declared.fault.ModuleFault.{ModuleFault}
+use Rattle.spirv_model.specs.declared.fault.ModuleKind.TheVariants as kind
+use Rattle.spirv_model.specs.Op.{Op}
+use Rattle.spirv_model.specs.History.{after}
+use Rattle.spirv_model.specs.Words.{Instruction, BadCount, BadOpcode, front}
+use Rattle.spirv_model.specs.Sections.{is_function_end}
 use Rattle.spirv_words.specs.Latest.{latest}
-use Rattle.spirv_words.specs.Operands.{Verdict, or_else, unless, operands}
-use Rattle.spirv_words.specs.FirstBad.{Reading, read_more, reading, ops_fault, first_fault, first_word_rule, fault_at, word_count, total_words, ends_function, late_fault, body_fault}
+use Rattle.spirv_model.specs.Operands.{Verdict, or_else, unless, operands}
+use Rattle.spirv_model.specs.FirstBad.{Reading, read_more, reading, ops_fault, first_fault, first_word_rule, fault_at, word_count, total_words, ends_function, late_fault, body_fault}
 use Rattle.spirv_words.specs.Reading.{reading_of, read_fault, instruction_fault, IfFault}
 use Rattle.spirv_words.proofs.Cutting.{front_words, front_read, count_read, opcode_read}
 

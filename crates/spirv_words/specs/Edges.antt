@@ -1,9 +1,9 @@
 -- The instructions inside of blocks, beside those that begin and end them.
 use Rattle.std.specs.Prelude.{if◌then◌else◌, Bool, true, ◌&&◌, List}
-use Rattle.spirv_words.specs.Op.{Op}
-use Rattle.spirv_words.specs.History.{in_function, block_is_open}
-use Rattle.spirv_words.specs.Sections.{section, is_body}
-use Rattle.spirv_words.specs.Blocks.{pending, takes}
+use Rattle.spirv_model.specs.Op.{Op}
+use Rattle.spirv_model.specs.History.{in_function, block_is_open}
+use Rattle.spirv_model.specs.Sections.{section, is_body}
+use Rattle.spirv_model.specs.Blocks.{pending, takes}
 
 -- An instruction that begins and ends no block stands in one, where it is one of the function.
 abbrev pub inside_block : List Op → Op → Bool

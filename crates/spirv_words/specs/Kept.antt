@@ -6,13 +6,13 @@ use Rattle.std.specs.List.{list_any}
 use Rattle.spirv_words.specs.declared.branches.Branches.{Branches}
 use Rattle.spirv_words.specs.declared.once.Once.{Once}
 use Rattle.spirv_words.specs.declared.place.Place.{Place}
-use Rattle.spirv_words.specs.declared.op.Op.{Op as View}
-use Rattle.spirv_words.specs.Op.{Op}
-use Rattle.spirv_words.specs.History.{is_branched_to, is_id, is_entry, in_function, block_is_open, after}
-use Rattle.spirv_words.specs.Types.{same_type, is_declared}
+use Rattle.spirv_model.specs.declared.op.Op.{Op as View}
+use Rattle.spirv_model.specs.Op.{Op}
+use Rattle.spirv_model.specs.History.{is_branched_to, is_id, is_entry, in_function, block_is_open, after}
+use Rattle.spirv_model.specs.Types.{same_type, is_declared}
 use Rattle.spirv_words.specs.Latest.{latest}
-use Rattle.spirv_words.specs.Sections.{takes_variable}
-use Rattle.spirv_words.specs.View.{shown}
+use Rattle.spirv_model.specs.Sections.{takes_variable}
+use Rattle.spirv_model.specs.View.{shown}
 
 -- the labels are those that a branch names
 abbrev pub NamesLabels : Branches → List Op → Type 0

@@ -1,8 +1,8 @@
 -- What the clauses see of the instructions before a place.
 use Rattle.std.specs.Prelude.{◌≡◌, ℕ, if◌then◌else◌, nat_lt, List, ◌∷◌, Option, None}
 use Rattle.spirv_words.specs.declared.known.Known.{Known}
-use Rattle.spirv_words.specs.Op.{Op}
-use Rattle.spirv_words.specs.History.{maker}
+use Rattle.spirv_model.specs.Op.{Op}
+use Rattle.spirv_model.specs.History.{maker}
 use Rattle.spirv_words.specs.Kept.{so_far}
 
 -- the instructions, the latest first

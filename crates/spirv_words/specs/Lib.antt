@@ -1,17 +1,4 @@
-pub mod StorageClass
-pub mod Decoration
-pub mod Settings
-pub mod Op
-pub mod Table
-pub mod Words
-pub mod View
-pub mod History
-pub mod Types
-pub mod Values
-pub mod Operands
-pub mod Sections
-pub mod Blocks
-pub mod FirstBad
+pub mod Fronts
 pub mod Made
 pub mod Latest
 pub mod Kept
@@ -19,4 +6,3 @@ pub mod Edges
 pub mod Known
 pub mod Rules
 pub mod Reading
-pub mod Meaning

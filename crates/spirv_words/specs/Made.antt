@@ -3,9 +3,9 @@ use Rattle.std.specs.Prelude.{◌≡◌, ℕ, List, option_map}
 use Rattle.std.specs.Ordering.{nat_cmp}
 use Rattle.std.specs.BTreeMap.{get}
 use Rattle.spirv_words.specs.declared.made.Made.{Made}
-use Rattle.spirv_words.specs.Op.{Op}
-use Rattle.spirv_words.specs.History.{maker}
-use Rattle.spirv_words.specs.View.{shown}
+use Rattle.spirv_model.specs.Op.{Op}
+use Rattle.spirv_model.specs.History.{maker}
+use Rattle.spirv_model.specs.View.{shown}
 
 -- the table has the maker of each id
 abbrev pub Records : Made → List Op → Type 0

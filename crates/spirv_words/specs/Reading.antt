@@ -2,12 +2,12 @@
 use Rattle.std.specs.Prelude.{◌≡◌, ℕ, ◌+◌, List, [], ◌∷◌, length, Option, None, Some, Result, Ok, Err}
 use Rattle.spirv_words.specs.declared.end.ModuleEnd.{ModuleEnd}
 use Rattle.spirv_words.specs.declared.end.ModuleEnd.TheVariants.{Bad, NoMemory}
-use Rattle.spirv_words.specs.declared.fault.ModuleFault.{ModuleFault}
+use Rattle.spirv_model.specs.declared.fault.ModuleFault.{ModuleFault}
 use Rattle.spirv_words.specs.declared.known.Known.{Known}
-use Rattle.spirv_words.specs.Op.{Op}
-use Rattle.spirv_words.specs.History.{after}
-use Rattle.spirv_words.specs.Operands.{or_else, operands}
-use Rattle.spirv_words.specs.FirstBad.{Reading, reading, ops_fault, first_fault, first_word_rule, fault_at, total_words}
+use Rattle.spirv_model.specs.Op.{Op}
+use Rattle.spirv_model.specs.History.{after}
+use Rattle.spirv_model.specs.Operands.{or_else, operands}
+use Rattle.spirv_model.specs.FirstBad.{Reading, reading, ops_fault, first_fault, first_word_rule, fault_at, total_words}
 use Rattle.spirv_words.specs.Known.{history}
 
 -- the instructions of these words

@@ -3,16 +3,16 @@ use Rattle.std.specs.Prelude.{ℕ, ◌==◌, ◌&&◌, true, List, Option}
 use Rattle.spirv_words.specs.declared.known.Known.{Known}
 use Rattle.spirv_words.specs.declared.each.Each.{Each}
 use Rattle.spirv_words.specs.declared.each.Each.TheVariants as each
-use Rattle.spirv_words.specs.declared.fault.ModuleFault.{ModuleFault}
-use Rattle.spirv_words.specs.Op.{Op}
-use Rattle.spirv_words.specs.StorageClass as class
-use Rattle.spirv_words.specs.Decoration.{takes_value, is_offset_of}
-use Rattle.spirv_words.specs.History.{value_type, maker}
-use Rattle.spirv_words.specs.Types.{is_word}
-use Rattle.spirv_words.specs.Values.{is_type, is_constant, pointee}
-use Rattle.spirv_words.specs.Operands.{Verdict, literal, later, made, word, operands}
-use Rattle.spirv_words.specs.FirstBad as first_bad
-use Rattle.spirv_words.specs.FirstBad.{first_fault, late_operands}
+use Rattle.spirv_model.specs.declared.fault.ModuleFault.{ModuleFault}
+use Rattle.spirv_model.specs.Op.{Op}
+use Rattle.spirv_model.specs.declared.storage_classes.TheConstants as class
+use Rattle.spirv_model.specs.Decoration.{takes_value, is_offset_of}
+use Rattle.spirv_model.specs.History.{value_type, maker}
+use Rattle.spirv_model.specs.Types.{is_word}
+use Rattle.spirv_model.specs.Values.{is_type, is_constant, pointee}
+use Rattle.spirv_model.specs.Operands.{Verdict, literal, later, made, word, operands}
+use Rattle.spirv_model.specs.FirstBad as first_bad
+use Rattle.spirv_model.specs.FirstBad.{first_fault, late_operands}
 use Rattle.spirv_words.specs.Known.{history}
 
 -- the rule of each word of a list
@@ -21,7 +21,7 @@ rule_of known each.Later x = later known.bound (history known) x
 rule_of known (each.DecorationValue d) v = literal known.bound (history known) (takes_value d v)
 rule_of known (each.Offset m) v = literal known.bound (history known) (is_offset_of m v)
 rule_of known each.Member x = made known.bound (history known) is_word x
-rule_of known (each.FirstValue t c) x = made known.bound (history known) (λ o. (c == class.function) && is_constant (λ v. true) o && is_type (value_type o) (pointee (maker t (history known)))) x
+rule_of known (each.FirstValue t c) x = made known.bound (history known) (λ o. (c == class.FUNCTION) && is_constant (λ v. true) o && is_type (value_type o) (pointee (maker t (history known)))) x
 rule_of known each.Word x = word known.bound (history known) x
 rule_of known each.MadeAtAll x = first_bad.id (history known) x
 

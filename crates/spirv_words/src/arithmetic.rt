@@ -1,14 +1,13 @@
 // The operands of instructions on values.
 
 ghost use Rattle.std.specs.Prelude.{◌≡◌, ◌+◌, ◌<◌, ◌^◌};
-ghost use Rattle.spirv_words.specs.Op as ops;
+ghost use Rattle.spirv_model.specs.Op as ops;
 ghost use Rattle.spirv_words.specs.Rules.{operand_fault};
 
-use crate::code::{BinaryCode, UnaryCode};
-use crate::fault::ModuleFault;
 use crate::known::Known;
 use crate::values::component_count;
 use crate::verdict::{first_wrong, shape};
+use spirv_model::{BinaryCode, ModuleFault, UnaryCode};
 
 #[tactic(auto, unfolding(crate::specs::Rules::operand_fault))]
 impl Known<'_> {

@@ -1,11 +1,11 @@
 // The labels that branches name.
 
 ghost use Rattle.std.specs.Prelude.{List, [], ◌∷◌, OnOk};
-ghost use Rattle.spirv_words.specs.Op as instruction_;
-ghost use Rattle.spirv_words.specs.View.{shown};
+ghost use Rattle.spirv_model.specs.Op as instruction_;
+ghost use Rattle.spirv_model.specs.View.{shown};
 ghost use Rattle.spirv_words.specs.Kept.{NamesLabels};
 
-use crate::op::Op;
+use spirv_model::Op;
 use std::alloc::{AllocError, Global};
 use std::collections::BTreeSet;
 
@@ -19,7 +19,7 @@ impl Branches {
     ghost use Rattle.std.specs.Prelude.{◌≡◌, is_ok, ℕ, ◌||◌, ◌==◌};
     ghost use Rattle.std.specs.Ordering.{nat_cmp};
     ghost use Rattle.std.specs.BTreeSet.{contains};
-    ghost use Rattle.spirv_words.specs.History.{is_branched_to};
+    ghost use Rattle.spirv_model.specs.History.{is_branched_to};
 
     pub fn new(alloc: Global) -> Branches
         ensures { NamesLabels result [] }

@@ -1,13 +1,14 @@
 // A module's words, put together instruction by instruction.
 
 ghost use Rattle.std.specs.Prelude.{◌≡◌, ◌+◌, ◌^◌, ◌<◌, List, ℕ, [], ◌++◌, length, is_ok, if◌then◌else◌, IfOk, OnOk, Some, None};
-ghost use Rattle.spirv_words.specs.Words.{spelled, header};
-ghost use Rattle.spirv_words.specs.FirstBad.{first_bad};
+ghost use Rattle.spirv_model.specs.Words.{spelled, header};
+ghost use Rattle.spirv_model.specs.FirstBad.{first_bad};
 ghost use Rattle.spirv_words.specs.Reading.{IfBad};
 
 use crate::end::ModuleEnd;
 use crate::header::header;
 use crate::module::Module;
+use spirv_model::header::WORD_COUNT_UNIT;
 use std::alloc::{AllocError, Global};
 use std::marker::Model;
 
@@ -41,7 +42,8 @@ impl Builder {
         ensures { self.new ≡ (if is_ok result then self.old ++ spelled opcode operands.now else self.old) }
     {
         let count = operands.len() as u32 + 1;
-        self.words.push(count * 65_536 + u32::from(opcode))?;
+        self.words
+            .push(count * WORD_COUNT_UNIT + u32::from(opcode))?;
         if let Err(end) = self.words.extend_from_slice(operands) {
             self.words.pop();
             return Err(end);

@@ -1,15 +1,9 @@
 // The storage classes of pointers and variables.
 
 ghost use Rattle.std.specs.Prelude.{◌≡◌};
-ghost use Rattle.spirv_words.specs.StorageClass.{is_class};
+ghost use Rattle.spirv_model.specs.StorageClass.{is_class};
 
-pub const INPUT: u32 = 1;
-
-pub const FUNCTION: u32 = 7;
-
-pub const PUSH_CONSTANT: u32 = 9;
-
-pub const STORAGE_BUFFER: u32 = 12;
+use spirv_model::storage_classes::{FUNCTION, INPUT, PUSH_CONSTANT, STORAGE_BUFFER};
 
 /// Whether the profile has a class.
 pub fn is_class(class: u32) -> bool

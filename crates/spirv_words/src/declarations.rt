@@ -1,17 +1,15 @@
 // The operands of types, constants, variables and the function.
 
 ghost use Rattle.std.specs.Prelude.{◌≡◌, ◌+◌, ◌<◌, ◌^◌, length};
-ghost use Rattle.spirv_words.specs.Op as ops;
+ghost use Rattle.spirv_model.specs.Op as ops;
 ghost use Rattle.spirv_words.specs.Rules.{operand_fault};
 
 use crate::class::is_class;
 use crate::each::Each;
-use crate::fault::ModuleFault;
 use crate::known::Known;
-use crate::op::Op;
 use crate::verdict::{first_wrong, shape};
-
-const NO_CONTROL: u32 = 0;
+use spirv_model::settings::{NO_CONTROL, UNSIGNED, WORD_WIDTH};
+use spirv_model::{ModuleFault, Op};
 
 #[tactic(auto, unfolding(crate::specs::Rules::operand_fault, crate::specs::Rules::rule_of))]
 impl Known<'_> {
@@ -34,7 +32,14 @@ impl Known<'_> {
         ensures { result ≡ operand_fault self.now at (ops.TypeInt id width sign) }
     {
         let declared = self.new_type(Op::TypeInt { id, width, sign }, id);
-        first_wrong(at, &[declared, shape(width == 32), shape(sign == 0)])
+        first_wrong(
+            at,
+            &[
+                declared,
+                shape(width == WORD_WIDTH),
+                shape(sign == UNSIGNED),
+            ],
+        )
     }
 
     pub fn type_vector_fault(

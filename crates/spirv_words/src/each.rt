@@ -2,13 +2,12 @@
 
 ghost use Rattle.std.specs.Prelude.{◌≡◌, ◌+◌, ◌<◌, ◌^◌, ◌++◌, length, map};
 ghost use Rattle.spirv_words.specs.Known.{history};
-ghost use Rattle.spirv_words.specs.Decoration as decorations;
-ghost use Rattle.spirv_words.specs.FirstBad.{first_fault};
+ghost use Rattle.spirv_model.specs.FirstBad.{first_fault};
 
-use crate::fault::{ModuleFault, ModuleKind};
+use crate::decoration::{is_offset_of, takes_value};
 use crate::known::Known;
 use crate::verdict::{first_wrong, shape};
-use dx_types::limits::MODULE_BINDINGS;
+use spirv_model::{ModuleFault, ModuleKind};
 
 /// The rule of each word of a list of operands.
 #[derive(Clone, Copy)]
@@ -27,34 +26,6 @@ pub enum Each {
     Word,
     /// An id that the module makes anywhere.
     MadeAtAll,
-}
-
-const ARRAY_STRIDE: u32 = 6;
-
-const BUILT_IN: u32 = 11;
-
-const BINDING: u32 = 33;
-
-const DESCRIPTOR_SET: u32 = 34;
-
-/// Whether a decoration takes a value.
-fn takes_value(decoration: u32, value: u32) -> bool
-    ensures { result ≡ decorations.takes_value decoration value }
-{
-    match decoration {
-        ARRAY_STRIDE => value == 4,
-        BUILT_IN => 26 <= value && value <= 29,
-        BINDING => value < MODULE_BINDINGS,
-        DESCRIPTOR_SET => value == 0,
-        _ => true,
-    }
-}
-
-/// Whether a member stands at an offset: each is a word.
-fn is_offset_of(member: u32, value: u32) -> bool
-    ensures { result ≡ decorations.is_offset_of member value }
-{
-    u64::from(value) == 4 * u64::from(member)
 }
 
 impl Known<'_> {

@@ -1,6 +1,6 @@
 // How reading ends where it gives no module.
 
-use crate::fault::ModuleFault;
+use spirv_model::ModuleFault;
 use std::alloc::AllocError;
 
 /// The first bad word of a module, or want of memory.

@@ -1,12 +1,12 @@
 // The function of the entry point.
 
 ghost use Rattle.std.specs.Prelude.{◌≡◌, List, ◌∷◌};
-ghost use Rattle.spirv_words.specs.Op as instruction_;
-ghost use Rattle.spirv_words.specs.View.{shown};
-ghost use Rattle.spirv_words.specs.History.{is_id};
+ghost use Rattle.spirv_model.specs.Op as instruction_;
+ghost use Rattle.spirv_model.specs.View.{shown};
+ghost use Rattle.spirv_model.specs.History.{is_id};
 ghost use Rattle.spirv_words.specs.Kept.{HasEntry};
 
-use crate::op::Op;
+use spirv_model::Op;
 
 /// The function of the latest entry point, behind an instruction more.
 pub fn entry_after(before: Option<u32>, op: Op<'_>) -> Option<u32>

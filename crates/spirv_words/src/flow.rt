@@ -1,14 +1,13 @@
 // The operands of merges, labels and branches.
 
 ghost use Rattle.std.specs.Prelude.{◌≡◌, ◌+◌, ◌<◌, ◌^◌};
-ghost use Rattle.spirv_words.specs.Op as ops;
+ghost use Rattle.spirv_model.specs.Op as ops;
 ghost use Rattle.spirv_words.specs.Rules.{operand_fault};
 
-use crate::fault::ModuleFault;
 use crate::known::Known;
 use crate::verdict::{first_wrong, shape};
-
-const NO_CONTROL: u32 = 0;
+use spirv_model::ModuleFault;
+use spirv_model::settings::NO_CONTROL;
 
 #[tactic(auto, unfolding(crate::specs::Rules::operand_fault))]
 impl Known<'_> {

@@ -1,27 +1,23 @@
 // The header of a module.
 
 ghost use Rattle.std.specs.Prelude.{◌≡◌};
-ghost use Rattle.spirv_words.specs.FirstBad.{takes_header_word, has_header_word, header_places, header_fault};
-ghost use Rattle.spirv_words.specs.Words.{header};
+ghost use Rattle.spirv_model.specs.FirstBad.{takes_header_word, has_header_word, header_places, header_fault};
+ghost use Rattle.spirv_model.specs.Words.{header};
 
-use crate::fault::{ModuleFault, ModuleKind};
+use spirv_model::header::{GENERATOR, MAGIC_NUMBER, SCHEMA, VERSION};
+use spirv_model::{ModuleFault, ModuleKind};
 
-/// The first word of each module.
-const MAGIC: u32 = 0x0723_0203;
-
-/// Version 1.6.
-const VERSION: u32 = 0x0001_0600;
-
-/// Whether the header may have this word at a place: the magic number, the version, the generator 0, any bound, and
-/// the schema 0.
+/// Whether the header may have this word at a place: the magic number, the version, the generator, any bound, and
+/// the schema.
 fn takes_word(at: u32, word: u32) -> bool
     ensures { result ≡ takes_header_word at word }
 {
     match at {
-        0 => word == MAGIC,
+        0 => word == MAGIC_NUMBER,
         1 => word == VERSION,
+        2 => word == GENERATOR,
         3 => true,
-        _ => word == 0,
+        _ => word == SCHEMA,
     }
 }
 
@@ -41,7 +37,7 @@ fn places() -> &'static [u32]
 }
 
 /// The first word of the header that is missing or wrong.
-#[tactic(auto, unfolding(crate::specs::FirstBad::header_fault))]
+#[tactic(auto, unfolding(spirv_model::specs::FirstBad::header_fault))]
 pub fn find_header_fault(words: &[u32]) -> Option<ModuleFault>
     ensures { result ≡ header_fault words.now }
 {
@@ -58,5 +54,5 @@ pub fn find_header_fault(words: &[u32]) -> Option<ModuleFault>
 pub fn header(bound: u32) -> [u32; 5]
     ensures { result ≡ header bound }
 {
-    [MAGIC, VERSION, 0, bound, 0]
+    [MAGIC_NUMBER, VERSION, GENERATOR, bound, SCHEMA]
 }

@@ -1,12 +1,12 @@
 // From an opcode and its operands to an instruction.
 
 ghost use Rattle.std.specs.Prelude.{◌≡◌, length, option_map};
-ghost use Rattle.spirv_words.specs.Decoration.{values_of};
-ghost use Rattle.spirv_words.specs.Table.{made_by, decorate_from, member_decorate_from, variable_from, chain_from, is_counted};
-ghost use Rattle.spirv_words.specs.View.{shown};
+ghost use Rattle.spirv_model.specs.Decoration.{values_of};
+ghost use Rattle.spirv_model.specs.Table.{made_by, decorate_from, member_decorate_from, variable_from, chain_from, is_counted};
+ghost use Rattle.spirv_model.specs.View.{shown};
 
-use crate::code::Opcode;
-use crate::op::Op;
+use crate::decoration::value_count;
+use spirv_model::{Op, Opcode};
 
 // The instruction with these fields as its operands, and behind `..` the rest of them; None where the operands are
 // too few or too many.
@@ -29,17 +29,6 @@ macro_rules! with {
             _ => None,
         }
     };
-}
-
-/// How many values a decoration has, None for one that the profile does not have.
-pub fn value_count(decoration: u32) -> Option<usize>
-    ensures { result ≡ values_of decoration }
-{
-    match decoration {
-        2 => Some(0),
-        6 | 11 | 33 | 34 | 35 => Some(1),
-        _ => None,
-    }
 }
 
 /// Whether a decoration may have so many values; one that the profile does not have may have any number.

@@ -8,8 +8,8 @@ use crate::branches::Branches;
 use crate::entry::{entry_after, is_id};
 use crate::made::Made;
 use crate::once::Once;
-use crate::op::Op;
 use crate::place::Place;
+use spirv_model::Op;
 use std::alloc::{AllocError, Global};
 
 /// The bound of the ids, the instructions so far, and what is looked up of them. Clauses see the instructions as
@@ -32,12 +32,12 @@ pub struct Known<'a> {
 
 impl<'a> Known<'a> {
     ghost use Rattle.std.specs.Prelude.{◌≡◌, [], option_map, IfOk};
-    ghost use Rattle.spirv_words.specs.View.{shown};
+    ghost use Rattle.spirv_model.specs.View.{shown};
     ghost use Rattle.spirv_words.specs.Known.{history, Extends};
-    ghost use Rattle.spirv_words.specs.History.{maker, is_branched_to, is_entry, in_function, block_is_open};
-    ghost use Rattle.spirv_words.specs.Types.{is_declared};
-    ghost use Rattle.spirv_words.specs.Sections.{in_order};
-    ghost use Rattle.spirv_words.specs.Blocks.{in_block};
+    ghost use Rattle.spirv_model.specs.History.{maker, is_branched_to, is_entry, in_function, block_is_open};
+    ghost use Rattle.spirv_model.specs.Types.{is_declared};
+    ghost use Rattle.spirv_model.specs.Sections.{in_order};
+    ghost use Rattle.spirv_model.specs.Blocks.{in_block};
     ghost use Rattle.spirv_words.specs.Latest.{latest};
 
     /// Before all instructions.

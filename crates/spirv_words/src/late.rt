@@ -1,17 +1,16 @@
 // Ids and labels that are never made.
 
 ghost use Rattle.std.specs.Prelude.{◌≡◌, ◌+◌, ◌<◌, ◌^◌, length, map};
-ghost use Rattle.spirv_words.specs.View.{shown};
+ghost use Rattle.spirv_model.specs.View.{shown};
 ghost use Rattle.spirv_words.specs.Known.{history};
-ghost use Rattle.spirv_words.specs.Table.{operands_of};
-ghost use Rattle.spirv_words.specs.FirstBad as rules;
+ghost use Rattle.spirv_model.specs.Table.{operands_of};
+ghost use Rattle.spirv_model.specs.FirstBad as rules;
 ghost use Rattle.spirv_words.specs.Rules.{late_operand_fault};
 
 use crate::each::Each;
-use crate::fault::{ModuleFault, ModuleKind};
 use crate::known::Known;
-use crate::op::Op;
 use crate::verdict::first_wrong;
+use spirv_model::{ModuleFault, ModuleKind, Op};
 
 impl Known<'_> {
     /// An id that an instruction makes.

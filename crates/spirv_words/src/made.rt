@@ -1,12 +1,12 @@
 // The instructions that make ids.
 
 ghost use Rattle.std.specs.Prelude.{◌≡◌, List, [], ◌∷◌, option_map, OnOk};
-ghost use Rattle.spirv_words.specs.Op as instruction_;
-ghost use Rattle.spirv_words.specs.History.{maker, result_of};
-ghost use Rattle.spirv_words.specs.View.{shown};
+ghost use Rattle.spirv_model.specs.Op as instruction_;
+ghost use Rattle.spirv_model.specs.History.{maker, result_of};
+ghost use Rattle.spirv_model.specs.View.{shown};
 ghost use Rattle.spirv_words.specs.Made.{Records};
 
-use crate::op::Op;
+use spirv_model::Op;
 use std::alloc::{AllocError, Global};
 use std::collections::BTreeMap;
 

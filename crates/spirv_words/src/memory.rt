@@ -1,15 +1,14 @@
 // The operands of instructions on memory.
 
 ghost use Rattle.std.specs.Prelude.{◌≡◌, ◌+◌, ◌<◌, ◌^◌, length};
-ghost use Rattle.spirv_words.specs.Op as ops;
+ghost use Rattle.spirv_model.specs.Op as ops;
 ghost use Rattle.spirv_words.specs.Rules.{operand_fault};
 
-use crate::code::AtomicCode;
 use crate::each::Each;
-use crate::fault::ModuleFault;
 use crate::known::Known;
 use crate::values::member_count;
 use crate::verdict::first_wrong;
+use spirv_model::{AtomicCode, ModuleFault};
 
 #[tactic(auto, unfolding(crate::specs::Rules::operand_fault, crate::specs::Rules::rule_of))]
 impl Known<'_> {

@@ -1,20 +1,12 @@
 // The merges, and the branches that they wait for.
 
 ghost use Rattle.std.specs.Prelude.{◌≡◌, List, option_map};
-ghost use Rattle.spirv_words.specs.Op as instruction_;
-ghost use Rattle.spirv_words.specs.View.{shown};
+ghost use Rattle.spirv_model.specs.Op as instruction_;
+ghost use Rattle.spirv_model.specs.View.{shown};
 ghost use Rattle.spirv_words.specs.Latest.{latest};
-ghost use Rattle.spirv_words.specs.Blocks as blocks;
+ghost use Rattle.spirv_model.specs.Blocks as blocks;
 
-use crate::op::Op;
-
-/// The merge that waits for its branch.
-#[derive(Clone, Copy, PartialEq, Eq, Debug)]
-pub enum Merge {
-    NoMerge,
-    OfSelection,
-    OfLoop,
-}
+use spirv_model::{Merge, Op};
 
 /// The merge that waits for its branch behind an instruction.
 pub fn pending(before: Option<Op<'_>>) -> Merge

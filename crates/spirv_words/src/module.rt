@@ -1,7 +1,7 @@
 // Modules that the profile takes.
 
 ghost use Rattle.std.specs.Prelude.{◌≡◌, ◌<◌, ◌^◌, length, None, Some, IfOk, OnOk};
-ghost use Rattle.spirv_words.specs.FirstBad.{first_bad};
+ghost use Rattle.spirv_model.specs.FirstBad.{first_bad};
 ghost use Rattle.spirv_words.specs.Reading.{IfBad};
 
 use crate::end::ModuleEnd;
@@ -17,7 +17,7 @@ pub struct Module {
 
 impl Model for Module {
     ghost use Rattle.std.specs.Prelude.{◌≡◌, List, ℕ, None};
-    ghost use Rattle.spirv_words.specs.FirstBad.{first_bad};
+    ghost use Rattle.spirv_model.specs.FirstBad.{first_bad};
 
     ghost Value = { List ℕ };
 

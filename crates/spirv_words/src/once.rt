@@ -1,13 +1,13 @@
 // The types that are declared once.
 
 ghost use Rattle.std.specs.Prelude.{◌≡◌, List, [], ◌∷◌, OnOk};
-ghost use Rattle.spirv_words.specs.Op as instruction_;
-ghost use Rattle.spirv_words.specs.View.{shown};
-ghost use Rattle.spirv_words.specs.Types.{same_type};
+ghost use Rattle.spirv_model.specs.Op as instruction_;
+ghost use Rattle.spirv_model.specs.View.{shown};
+ghost use Rattle.spirv_model.specs.Types.{same_type};
 ghost use Rattle.std.specs.List.{list_any};
 ghost use Rattle.spirv_words.specs.Kept.{HasTypes};
 
-use crate::op::Op;
+use spirv_model::Op;
 use std::alloc::{AllocError, Global};
 
 /// The types so far that are no aggregates and no pointers. The profile has few of them, so they are gone through

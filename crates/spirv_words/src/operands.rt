@@ -1,16 +1,15 @@
 // The rules of an instruction.
 
 ghost use Rattle.std.specs.Prelude.{◌≡◌, ◌+◌, ◌<◌, ◌^◌, ◌∷◌, length};
-ghost use Rattle.spirv_words.specs.View.{shown};
+ghost use Rattle.spirv_model.specs.View.{shown};
 ghost use Rattle.spirv_words.specs.Known.{history};
-ghost use Rattle.spirv_words.specs.Table.{operands_of};
-ghost use Rattle.spirv_words.specs.Operands.{operands};
-ghost use Rattle.spirv_words.specs.FirstBad.{first_fault, first_word_rule, word_count};
+ghost use Rattle.spirv_model.specs.Table.{operands_of};
+ghost use Rattle.spirv_model.specs.Operands.{operands};
+ghost use Rattle.spirv_model.specs.FirstBad.{first_fault, first_word_rule, word_count};
 ghost use Rattle.spirv_words.specs.Rules.{operand_fault};
 
-use crate::fault::{ModuleFault, ModuleKind};
 use crate::known::Known;
-use crate::op::Op;
+use spirv_model::{ModuleFault, ModuleKind, Op};
 
 // Which rules the operands of each instruction have.
 macro_rules! operands {

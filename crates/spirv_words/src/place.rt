@@ -1,15 +1,15 @@
 // Where in a module an instruction stands.
 
 ghost use Rattle.std.specs.Prelude.{◌≡◌, List, [], ◌∷◌, Some, option_map};
-ghost use Rattle.spirv_words.specs.Op as instruction_;
-ghost use Rattle.spirv_words.specs.View.{shown};
-ghost use Rattle.spirv_words.specs.History as history;
-ghost use Rattle.spirv_words.specs.Sections as sections;
+ghost use Rattle.spirv_model.specs.Op as instruction_;
+ghost use Rattle.spirv_model.specs.View.{shown};
+ghost use Rattle.spirv_model.specs.History as history;
+ghost use Rattle.spirv_model.specs.Sections as sections;
 ghost use Rattle.spirv_words.specs.Latest.{latest};
 
-use crate::merges::{Merge, pending, takes};
-use crate::op::Op;
-use crate::sections::{Section, may_follow, section_of};
+use crate::merges::{pending, takes};
+use crate::sections::{may_follow, section_of};
+use spirv_model::{Op, Section};
 
 /// The end of the instructions so far: the latest one, and what may stand behind it.
 #[derive(Clone, Copy)]
@@ -61,7 +61,7 @@ fn takes_variable_after(before: Option<Op<'_>>, op: Op<'_>) -> bool
 
 impl<'a> Place<'a> {
     ghost use Rattle.spirv_words.specs.Kept.{IsPlace};
-    ghost use Rattle.spirv_words.specs.Blocks.{in_block, has_block};
+    ghost use Rattle.spirv_model.specs.Blocks.{in_block, has_block};
     ghost use Rattle.spirv_words.specs.Edges.{inside_block};
 
     /// Before all instructions.

@@ -1,18 +1,17 @@
 // Reading a module's words.
 
 ghost use Rattle.std.specs.Prelude.{◌≡◌, ◌+◌, ◌<◌, ◌^◌, length, None, Some, IfOk, OnOk};
-ghost use Rattle.spirv_words.specs.View.{shown};
-ghost use Rattle.spirv_words.specs.FirstBad.{word_count, ends_function, body_fault, first_bad};
+ghost use Rattle.spirv_model.specs.View.{shown};
+ghost use Rattle.spirv_model.specs.FirstBad.{word_count, ends_function, body_fault, first_bad};
 ghost use Rattle.spirv_words.specs.Known.{history, Extends};
 ghost use Rattle.spirv_words.specs.Reading.{reading_of, read_fault, instruction_fault, IsRead, IfBad};
 
 use crate::end::ModuleEnd;
-use crate::fault::{ModuleFault, ModuleKind};
 use crate::front::{FrontView, front_of};
 use crate::header::find_header_fault;
 use crate::known::Known;
 use crate::late::word_count;
-use crate::op::Op;
+use spirv_model::{ModuleFault, ModuleKind, Op};
 use std::alloc::Global;
 
 /// Adds the instruction at a place, where the profile takes it there.
@@ -102,7 +101,7 @@ fn check_body(alloc: Global, bound: u32, body: &[u32]) -> Result<(), ModuleEnd>
 }
 
 /// Whether the profile takes a module's words.
-#[tactic(auto, unfolding(crate::specs::FirstBad::first_bad))]
+#[tactic(auto, unfolding(spirv_model::specs::FirstBad::first_bad))]
 pub fn check_words(alloc: Global, words: &[u32]) -> Result<(), ModuleEnd>
     requires { length words.now < 2 ^ 32 }
     ensures good { OnOk result (first_bad words.now ≡ None) }

@@ -1,21 +1,20 @@
 // The rules of a word: what an instruction's operand may be, after the instructions before it.
 
 ghost use Rattle.std.specs.Prelude.{◌≡◌, ◌==◌, ◌||◌, ◌&&◌, nat_lt, true, Some, option_map};
-ghost use Rattle.spirv_words.specs.declared.fault.ModuleKind.TheVariants as kinds;
-ghost use Rattle.spirv_words.specs.View.{shown};
+ghost use Rattle.spirv_model.specs.declared.fault.ModuleKind.TheVariants as kinds;
+ghost use Rattle.spirv_model.specs.View.{shown};
 ghost use Rattle.spirv_words.specs.Known.{history, found};
-ghost use Rattle.spirv_words.specs.History as results;
-ghost use Rattle.spirv_words.specs.Types as types;
-ghost use Rattle.spirv_words.specs.Values as values;
-ghost use Rattle.spirv_words.specs.Operands as rules;
+ghost use Rattle.spirv_model.specs.History as results;
+ghost use Rattle.spirv_model.specs.Types as types;
+ghost use Rattle.spirv_model.specs.Values as values;
+ghost use Rattle.spirv_model.specs.Operands as rules;
 
-use crate::class::{FUNCTION, PUSH_CONSTANT, STORAGE_BUFFER};
-use crate::fault::ModuleKind;
 use crate::known::Known;
-use crate::op::Op;
 use crate::types::{is_array, is_truth, is_vector, is_word};
 use crate::values::{component, is_type, value_type};
 use crate::verdict::shape;
+use spirv_model::storage_classes::{FUNCTION, PUSH_CONSTANT, STORAGE_BUFFER};
+use spirv_model::{ModuleKind, Op};
 
 // An id that was made before, by an instruction of which this holds.
 macro_rules! made {
@@ -187,7 +186,7 @@ impl<'a> Known<'a> {
 
     /// Whether the value of an instruction is a pointer into a buffer, to a word.
     fn gives_shared_word(&self, op: Op<'a>) -> bool
-        ensures { result ≡ values.gives (history self.now) (types.is_pointer (history self.now) 12 types.is_word) (shown op.entry) }
+        ensures { result ≡ values.gives (history self.now) (types.is_pointer (history self.now) STORAGE_BUFFER types.is_word) (shown op.entry) }
     {
         match self.type_given(Some(op)) {
             None => false,
@@ -197,7 +196,7 @@ impl<'a> Known<'a> {
 
     /// Whether the value of an instruction is a pointer into a variable of the function or into a buffer, to a word.
     fn gives_target(&self, op: Op<'a>) -> bool
-        ensures { result ≡ values.gives (history self.now) (λ o. types.is_pointer (history self.now) 7 types.is_word o || types.is_pointer (history self.now) 12 types.is_word o) (shown op.entry) }
+        ensures { result ≡ values.gives (history self.now) (λ o. types.is_pointer (history self.now) FUNCTION types.is_word o || types.is_pointer (history self.now) STORAGE_BUFFER types.is_word o) (shown op.entry) }
     {
         match self.type_given(Some(op)) {
             None => false,
@@ -232,7 +231,7 @@ impl<'a> Known<'a> {
 
     /// A first value is a constant, of a variable of the function.
     pub fn first_value(&self, variable_type: u32, class: u32, id: u32) -> Option<ModuleKind>
-        ensures { result ≡ rules.made self.now.bound (history self.now) (λ o. (class == 7) && values.is_constant (λ v. true) o && values.is_type (results.value_type o) (values.pointee (results.maker variable_type (history self.now)))) id }
+        ensures { result ≡ rules.made self.now.bound (history self.now) (λ o. (class == FUNCTION) && values.is_constant (λ v. true) o && values.is_type (results.value_type o) (values.pointee (results.maker variable_type (history self.now)))) id }
     {
         made!(self, id, op => class == FUNCTION
             && matches!(op, Op::Constant { .. })
@@ -241,7 +240,7 @@ impl<'a> Known<'a> {
 
     /// The type of a chain: a pointer into push constants or a buffer, to a word.
     pub fn chain_type(&self, id: u32) -> Option<ModuleKind>
-        ensures { result ≡ rules.made self.now.bound (history self.now) (λ o. types.is_pointer (history self.now) 9 types.is_word o || types.is_pointer (history self.now) 12 types.is_word o) id }
+        ensures { result ≡ rules.made self.now.bound (history self.now) (λ o. types.is_pointer (history self.now) PUSH_CONSTANT types.is_word o || types.is_pointer (history self.now) STORAGE_BUFFER types.is_word o) id }
     {
         made!(self, id, op => self.points_to_word(PUSH_CONSTANT, op)
             || self.points_to_word(STORAGE_BUFFER, op))

@@ -1,22 +1,10 @@
 // The sections of a module, in their order.
 
 ghost use Rattle.std.specs.Prelude.{◌≡◌};
-ghost use Rattle.spirv_words.specs.Sections.{section, follows, is_body, is_function_end};
-ghost use Rattle.spirv_words.specs.View.{shown};
+ghost use Rattle.spirv_model.specs.Sections.{section, follows, is_body, is_function_end};
+ghost use Rattle.spirv_model.specs.View.{shown};
 
-use crate::op::Op;
-
-/// The sections of a module, in their order. That of the types has the constants and the module's variables too.
-#[derive(Clone, Copy, PartialEq, Eq, Debug)]
-pub enum Section {
-    Capabilities,
-    Model,
-    Entry,
-    Modes,
-    Decorations,
-    Types,
-    Body,
-}
+use spirv_model::{Op, Section};
 
 /// The section of an instruction, inside of the function or outside.
 pub fn section_of(inside: bool, op: Op<'_>) -> Section

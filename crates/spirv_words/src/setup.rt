@@ -1,37 +1,18 @@
 // The operands of what sets a module up, and of decorations.
 
 ghost use Rattle.std.specs.Prelude.{◌≡◌, ◌+◌, ◌<◌, ◌^◌, length};
-ghost use Rattle.spirv_words.specs.Op as ops;
-ghost use Rattle.spirv_words.specs.Decoration.{is_decoration};
+ghost use Rattle.spirv_model.specs.Op as ops;
 ghost use Rattle.spirv_words.specs.Rules.{operand_fault};
 
+use crate::decoration::is_decoration;
 use crate::each::Each;
-use crate::fault::ModuleFault;
 use crate::known::Known;
 use crate::verdict::{first_wrong, shape};
-
-const SHADER: u32 = 1;
-
-const LOGICAL: u32 = 0;
-
-const GLSL_450: u32 = 1;
-
-const GL_COMPUTE: u32 = 5;
-
-const LOCAL_SIZE: u32 = 17;
-// the text `main`, and its end
-const NAME_MAIN: u32 = 0x6e69_616d;
-
-const NAME_END: u32 = 0;
-// the decoration of a member
-const OFFSET: u32 = 35;
-
-/// Whether an id may have a decoration.
-fn is_decoration(decoration: u32) -> bool
-    ensures { result ≡ is_decoration decoration }
-{
-    matches!(decoration, 2 | 6 | 11 | 33 | 34)
-}
+use spirv_model::ModuleFault;
+use spirv_model::decorations::OFFSET;
+use spirv_model::settings::{
+    GL_COMPUTE, GLSL_450, LOCAL_SIZE, LOGICAL, NAME_END, NAME_MAIN, SHADER,
+};
 
 #[tactic(auto, unfolding(crate::specs::Rules::operand_fault, crate::specs::Rules::rule_of))]
 impl Known<'_> {

@@ -1,14 +1,14 @@
 // The types of the profile.
 
 ghost use Rattle.std.specs.Prelude.{◌≡◌, option_map};
-ghost use Rattle.spirv_words.specs.View.{shown};
+ghost use Rattle.spirv_model.specs.View.{shown};
 ghost use Rattle.spirv_words.specs.Known.{history};
-ghost use Rattle.spirv_words.specs.Types as types;
-ghost use Rattle.spirv_words.specs.Types.{made_as};
+ghost use Rattle.spirv_model.specs.Types as types;
+ghost use Rattle.spirv_model.specs.Types.{made_as};
 
-use crate::class::{FUNCTION, INPUT, PUSH_CONSTANT, STORAGE_BUFFER};
 use crate::known::Known;
-use crate::op::Op;
+use spirv_model::Op;
+use spirv_model::storage_classes::{FUNCTION, INPUT, PUSH_CONSTANT, STORAGE_BUFFER};
 
 /// Whether there is an instruction, which declares the type of words.
 pub fn is_word(op: Option<Op<'_>>) -> bool

@@ -1,15 +1,15 @@
 // Values, their types, and what these are made of.
 
 ghost use Rattle.std.specs.Prelude.{◌≡◌, Some, option_map};
-ghost use Rattle.spirv_words.specs.View.{shown};
+ghost use Rattle.spirv_model.specs.View.{shown};
 ghost use Rattle.spirv_words.specs.Known.{history};
-ghost use Rattle.spirv_words.specs.History as results;
-ghost use Rattle.spirv_words.specs.Values as values;
+ghost use Rattle.spirv_model.specs.History as results;
+ghost use Rattle.spirv_model.specs.Values as values;
 
-use crate::class::FUNCTION;
 use crate::known::Known;
-use crate::op::Op;
 use crate::types::is_array;
+use spirv_model::Op;
+use spirv_model::storage_classes::FUNCTION;
 
 /// The id of the type of an instruction's value.
 pub fn value_type(op: Op<'_>) -> Option<u32>

@@ -1,11 +1,11 @@
 // What is wrong with a word, and the first of several words that is wrong.
 
 ghost use Rattle.std.specs.Prelude.{◌≡◌, ◌+◌, ◌<◌, ◌^◌, length};
-ghost use Rattle.spirv_words.specs.declared.fault.ModuleKind.TheVariants as kinds;
-ghost use Rattle.spirv_words.specs.Operands.{unless};
-ghost use Rattle.spirv_words.specs.FirstBad.{first_fault};
+ghost use Rattle.spirv_model.specs.declared.fault.ModuleKind.TheVariants as kinds;
+ghost use Rattle.spirv_model.specs.Operands.{unless};
+ghost use Rattle.spirv_model.specs.FirstBad.{first_fault};
 
-use crate::fault::{ModuleFault, ModuleKind};
+use spirv_model::{ModuleFault, ModuleKind};
 
 /// A word is of kind Shape where it isn't what its place takes.
 pub fn shape(holds: bool) -> Option<ModuleKind>

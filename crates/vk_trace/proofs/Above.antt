@@ -1,7 +1,7 @@
 -- Words whose bytes all lie above a number, and so above the separators.
 use Rattle.std.proofs.Common.{◌≡◌, ℕ, ◌<◌, ◌≤◌, Bool, true, false, cond, ◌&&◌, ltb, List, [], ◌∷◌, ◌++◌, refl, arith}
 use Rattle.std.proofs.lemmas.Bool.{ltb-true, lt-ltb}
-use Rattle.vk_trace.specs.Reading.{Lacks}
+use Rattle.text_words.specs.Words.{Lacks}
 use Rattle.vk_trace.proofs.Splits.{AllLack}
 
 abbrev pub above : ℕ → List ℕ → Bool

@@ -1,7 +1,4 @@
-pub mod Cuts
 pub mod Splits
-pub mod Digits
-pub mod Hex
 pub mod Spelled
 pub mod Above
 pub mod Masks

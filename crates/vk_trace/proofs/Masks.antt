@@ -6,7 +6,8 @@ use Rattle.std.proofs.lemmas.List.{append-nil}
 use Rattle.vk_types.specs.declared.access.Access.{Access}
 use Rattle.vk_types.specs.declared.access.Mask.{Mask}
 use Rattle.vk_trace.specs.ListText.{IsAccess, IsMask, access_word, alike, alike_of, listed, listed_of, mask_word, part, parts, stage_parts, join}
-use Rattle.vk_trace.specs.Reading.{BadPart, IsPart, HaveAccesses, IsRead, split}
+use Rattle.vk_trace.specs.Reading.{BadPart, IsPart, HaveAccesses, split}
+use Rattle.text_words.specs.Words.{IsRead}
 use Rattle.vk_trace.proofs.Above.{above, above_append, above_cond, all_above, all_above_append, all_lack, and, both}
 use Rattle.vk_trace.proofs.Splits.{split_words, join_split}
 

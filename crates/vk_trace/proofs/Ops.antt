@@ -26,8 +26,9 @@ use Rattle.vk_trace.specs.declared.kind.LineKind.TheVariants as lines
 use Rattle.vk_trace.specs.ListText.{IsSmall, IsWide, FitsRange, FitsSecond, FitSlots, FitGroups, FitsWork, FitsCond, IsOp, block_word, shader_word, range_word, hex_word, mask_word, parts, slot_word, slot_words, slot_number, groups_words, work_name, work_words, cond_words, call_words, host_words, second_word, op_words, join, rest_of}
 use Rattle.vk_trace.specs.Reading.{Ends, IsHost, IsOpOf, NoSlot, ReadsCommand, ReadsLine, NoLine, fields, first_word, line_kind_name, work_kind_name, pair_words, split}
 use Rattle.vk_trace.proofs.Above.{above, above_append, all_above, all_above_append, all_lack, and, both, above_less}
-use Rattle.vk_trace.proofs.Digits.{AreDigits, AreDigits-decimal}
-use Rattle.vk_trace.proofs.Hex.{AreBytes, above_all}
+use Rattle.text_words.proofs.Digits.{AreDigits, AreDigits-decimal}
+use Rattle.text_words.proofs.Hex.{above_all}
+use Rattle.text_words.specs.Words.{AreBytes}
 use Rattle.vk_trace.proofs.Masks.{above_parts}
 use Rattle.vk_trace.proofs.Spelled.{small_wide, be_bytes}
 use Rattle.vk_trace.proofs.Splits.{split_words, join_split}

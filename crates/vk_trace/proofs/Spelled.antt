@@ -1,7 +1,7 @@
 -- The words that single values have: how they are cut, and that no two values have the same.
-use Rattle.std.proofs.Common.{◌≡◌, ℕ, zero, suc, ◌^◌, ◌<◌, ◌≤◌, inl, inr, true, List, [], ◌∷◌, ◌++◌, length, drop, get_or, Option, Some, None, Result, Ok, Err, refl, sym, ap, subst, ◌∙◌, arith}
+use Rattle.std.proofs.Common.{◌≡◌, ℕ, zero, suc, ◌^◌, ◌<◌, inl, inr, true, List, [], ◌∷◌, ◌++◌, length, drop, get_or, Option, Some, None, Result, Ok, Err, refl, sym, ap, ◌∙◌, arith}
 use Rattle.std.specs.Fmt.{decimal}
-use Rattle.std.specs.Result.{result_ok, OkIff}
+use Rattle.std.specs.Result.{result_ok}
 use Rattle.std.specs.Int.{w32, to_be_bytes, from_be_bytes}
 use Rattle.std.proofs.lemmas.Nat.{be_bytes_4, from_be_bytes-to_be_bytes_4}
 use Rattle.std.proofs.lemmas.Fmt.{decimal_injective}
@@ -9,10 +9,11 @@ use Rattle.hex.specs.Hex.{encode_lower, lower_digits, decode_sized}
 use Rattle.hex.proofs.HexLemmas.{decode_sized-ok, decode_sized-encode_lower, length-encode_with}
 use Rattle.dx_types.specs.declared.range.Range.{Range}
 use Rattle.vk_trace.specs.ListText.{IsWide, IsSmall, FitsRange, block_word, range_word, hex_word}
-use Rattle.vk_trace.specs.Reading.{Lacks, Cut, IsRead, lower}
-use Rattle.vk_trace.proofs.Cuts.{same_cut}
-use Rattle.vk_trace.proofs.Hex.{AreBytes, is_bytes, encode_sized, lower_encode, ok_same}
-use Rattle.vk_trace.proofs.Digits.{Lacks-decimal, narrowed}
+use Rattle.text_words.specs.Words.{Lacks, Cut, IsRead, lower}
+use Rattle.text_words.proofs.Cutting.{same_cut}
+use Rattle.text_words.proofs.Hex.{is_bytes, encode_sized, lower_encode, ok_same}
+use Rattle.text_words.specs.Words.{AreBytes}
+use Rattle.text_words.proofs.Digits.{Lacks-decimal}
 
 -- ---- what was found, and whether anything was
 
@@ -28,11 +29,6 @@ same_number m n p q e = decimal_injective m n p q e
 
 pub small_wide : (n : ℕ) → IsSmall n → IsWide n
 small_wide n lt = omega arith
-
--- a number that must be below a bound
-pub narrow : {E : Type 0} (bound : ℕ) (word : List ℕ) (n : ℕ) (r : Result ℕ E) (found : Option ℕ) → bound ≤ 2 ^ 64 → IsWide n → word ≡ decimal n → OkIff r (n < bound) n → found ≡ result_ok r
-    → IsRead (λ m. m < bound) decimal word found
-narrow bound word n r found fit lt e h is = subst (λ (o : Option ℕ). IsRead (λ m. m < bound) decimal word o) (sym is) (narrowed bound word n r fit lt e h)
 
 -- ---- ranges
 

@@ -14,8 +14,8 @@ use Rattle.vk_types.specs.declared.op.VkOp.{VkOp}
 use Rattle.vk_types.specs.declared.op.VkOp.TheVariants as op
 use Rattle.vk_trace.specs.ListText.{IsSmall, IsWide, FitsRange, FitsSecond, FitsCond, IsOp, IsFirstBad, ListText, barrier_words, block_word, call_words, command_words, cond_words, join, line, mask_word, op_words, range_word, second_word, text_of, work_name}
 use Rattle.vk_trace.specs.Reading.{fields, first_word}
-use Rattle.vk_trace.proofs.Cuts.{same_cut}
-use Rattle.vk_trace.proofs.Digits.{first_digit}
+use Rattle.text_words.proofs.Cutting.{same_cut}
+use Rattle.text_words.proofs.Digits.{first_digit}
 use Rattle.vk_trace.proofs.Masks.{same_mask}
 use Rattle.vk_trace.proofs.Ops.{op_split, tail_no_slot}
 use Rattle.vk_trace.proofs.Spelled.{same_number, small_wide, same_range}

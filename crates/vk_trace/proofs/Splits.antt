@@ -2,8 +2,9 @@
 use Rattle.std.proofs.Common.{◌≡◌, ℕ, Bool, true, false, cond, eqb, List, [], ◌∷◌, ◌++◌, refl, sym, ap, ◌∙◌}
 use Rattle.std.proofs.lemmas.Bool.{eqb-true, eq-eqb}
 use Rattle.vk_trace.specs.ListText.{join, rest_of}
-use Rattle.vk_trace.proofs.Cuts.{no_stop}
-use Rattle.vk_trace.specs.Reading.{Lacks, StopsAt, Cut, onto, split, left_words}
+use Rattle.text_words.proofs.Cutting.{no_stop}
+use Rattle.vk_trace.specs.Reading.{onto, split, left_words}
+use Rattle.text_words.specs.Words.{Lacks, StopsAt, Cut}
 
 -- the words behind the first separator
 pub left : ℕ → List ℕ → List (List ℕ)

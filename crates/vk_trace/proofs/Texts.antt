@@ -4,9 +4,10 @@ use Rattle.std.specs.List.{AllByRecursion}
 use Rattle.std.proofs.lemmas.List.{length-append, append-nil}
 use Rattle.vk_types.specs.declared.op.VkOp.{VkOp}
 use Rattle.vk_trace.specs.ListText.{IsOp, IsFirstBad, join, rest_of, op_words, line, text_of}
-use Rattle.vk_trace.specs.Reading.{Lacks, Cut, NoLine, Reads, ReadsLine}
+use Rattle.vk_trace.specs.Reading.{NoLine, Reads, ReadsLine}
+use Rattle.text_words.specs.Words.{Lacks, Cut}
 use Rattle.vk_trace.proofs.Above.{above, all_above, both, lacks_above}
-use Rattle.vk_trace.proofs.Cuts.{same_cut}
+use Rattle.text_words.proofs.Cutting.{same_cut}
 use Rattle.vk_trace.proofs.Ops.{above_op}
 
 -- ---- no line feed stands in a line

@@ -14,7 +14,7 @@ use Rattle.vk_types.specs.declared.command.Work.{Work}
 use Rattle.vk_types.specs.declared.command.Work.TheVariants as work
 use Rattle.vk_trace.specs.ListText.{IsSmall, FitsRange, IsSlot, AreSlots, FitSlots, IsWork, FitsWork, size, slot_rank, slot_number, slot_word, slot_words, range_word, hex_word, shader_word, groups_words, work_name, work_words}
 use Rattle.vk_trace.specs.Reading.{IsReadRange, AreElements, AreFour, MayStand, IsGroups, IsSlots, NoSlot, NoSlots, IsNext, NoWork, TakesWork, TakesAll, next_rank}
-use Rattle.vk_trace.proofs.Digits.{first_digit}
+use Rattle.text_words.proofs.Digits.{first_digit}
 use Rattle.vk_trace.proofs.Spelled.{same_number, small_wide, same_range, same_hex}
 
 -- ---- nothing was found

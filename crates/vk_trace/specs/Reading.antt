@@ -1,5 +1,5 @@
 -- What the pieces of the reader promise of each other.
-use Rattle.std.specs.Prelude.{◌≡◌, ℕ, ◌+◌, ◌*◌, ◌%◌, ◌<◌, ◌≤◌, ◌==◌, ◌⊎◌, Bool, true, not, ◌&&◌, ◌||◌, cond, ⊤, Option, None, Some, List, [], ◌∷◌, ◌++◌, length, MatchOption, nat_le, codes, decimal}
+use Rattle.std.specs.Prelude.{◌≡◌, ℕ, ◌+◌, ◌*◌, ◌%◌, ◌<◌, ◌≤◌, ◌==◌, ◌⊎◌, Bool, cond, ⊤, Option, None, Some, List, [], ◌∷◌, ◌++◌, length, MatchOption, codes, decimal}
 use Rattle.std.specs.List.{AllByRecursion}
 use Rattle.dx_types.specs.declared.range.Range.{Range}
 use Rattle.vk_types.specs.declared.access.Access.{Access}
@@ -21,32 +21,6 @@ use Rattle.vk_trace.specs.declared.kind.LineKind.{LineKind}
 use Rattle.vk_trace.specs.declared.kind.LineKind.TheVariants as lines
 use Rattle.vk_trace.specs.ListText.{IsSmall, IsWide, IsRange, FitsRange, FitsSecond, IsAccess, IsMask, IsSource, IsCond, FitsCond, AreGroups, FitGroups, AreSlots, FitSlots, IsWork, FitsWork, FitsCommand, size, slot_rank, slot_number, access_word, range_word, slot_word, part, stage_parts, slot_words, cond_words, call_words, work_name, work_words, command_words, host_words, barrier_words, op_words, join, text_of, IsOp}
 
--- No byte of these is c.
-abbrev pub Lacks : ℕ → List ℕ → Type 0
-Lacks c [] = ⊤
-Lacks c (x ∷ xs) = (x ≡ c → ⊥) × Lacks c xs
-
--- Nothing is here, or c stands in front.
-abbrev pub StopsAt : ℕ → List ℕ → Type 0
-StopsAt c [] = ⊤
-StopsAt c (x ∷ xs) = x ≡ c
-
--- The bytes before the first c, and those from it on.
-pub record Cut (c : ℕ) (whole front behind : List ℕ) : Type 0 where
-  pub spelled : whole ≡ front ++ behind
-  pub lacks : Lacks c front
-  pub stops : StopsAt c behind
-
--- A word begins with no sign, and with a zero only where it is the zero.
-abbrev pub plain : List ℕ → Bool
-plain [] = true
-plain (x ∷ xs) = not (x == 43) && (not (x == 48) || length xs == 0)
-
--- No byte is a capital letter.
-abbrev pub lower : List ℕ → Bool
-lower [] = true
-lower (x ∷ xs) = not (nat_le 65 x && nat_le x 90) && lower xs
-
 -- The words between the separators of a text.
 abbrev pub onto : ℕ → List (List ℕ) → List (List ℕ)
 onto x [] = (x ∷ []) ∷ []
@@ -59,10 +33,6 @@ split c (x ∷ xs) = cond (x == c) ([] ∷ split c xs) (onto x (split c xs))
 -- The words of the texts that are left: of one, or of none.
 abbrev pub left_words : ℕ → Bool → List ℕ → List (List ℕ)
 left_words c ended text = cond ended [] (split c text)
-
--- A word is that of the value that was found, or of none.
-abbrev pub IsRead : {A : Type 0} → (A → Type 0) → (A → List ℕ) → List ℕ → Option A → Type 0
-IsRead Good spell word found = MatchOption found ((v : _) → Good v → word ≡ spell v → ⊥) (λ v. Good v × (word ≡ spell v))
 
 -- The first of some words is that of the value that was found, or of none; the others are left.
 abbrev pub Takes : {A : Type 0} → (A → Type 0) → (A → List ℕ) → List (List ℕ) → List (List ℕ) → Option A → Type 0

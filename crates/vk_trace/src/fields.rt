@@ -8,6 +8,7 @@ use crate::mask::mask;
 use crate::values;
 use crate::words::Words;
 use dx_types::Range;
+use text_words::{read_u32, read_u64};
 use vk_types::Mask;
 
 impl Words<'_> {
@@ -15,14 +16,14 @@ impl Words<'_> {
     pub fn small(&mut self) -> Option<u32>
         ensures { Takes IsSmall decimal self.old self.new result }
     {
-        values::small(self.next()?)
+        read_u32(self.next()?)
     }
 
     /// A number below 2^64.
     pub fn wide(&mut self) -> Option<u64>
         ensures { Takes IsWide decimal self.old self.new result }
     {
-        values::wide(self.next()?)
+        read_u64(self.next()?)
     }
 
     /// The number of a block.

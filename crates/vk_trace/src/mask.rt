@@ -5,7 +5,8 @@ ghost use Rattle.std.specs.Bool.{MatchBool};
 ghost use Rattle.vk_types.specs.declared.access.Access.{Access};
 ghost use Rattle.vk_types.specs.declared.access.Mask.{Mask};
 ghost use Rattle.vk_trace.specs.ListText.{IsAccess, IsMask, IsSource, IsSourceAccess, access_word, alike, listed, mask_word, part, parts, stage_parts};
-ghost use Rattle.vk_trace.specs.Reading.{BadPart, HaveAccesses, IsPart, IsParts, IsRead, split};
+ghost use Rattle.vk_trace.specs.Reading.{BadPart, HaveAccesses, IsPart, IsParts, split};
+ghost use Rattle.text_words.specs.Words.{IsRead};
 
 use crate::values::access;
 use crate::words::Words;

@@ -5,15 +5,17 @@ ghost use Rattle.vk_types.specs.declared.command.Cond.{Cond};
 ghost use Rattle.vk_types.specs.declared.command.Command.{Command};
 ghost use Rattle.vk_types.specs.declared.op.VkOp.{VkOp};
 ghost use Rattle.vk_trace.specs.ListText.{BadOnly, IsOp, IsSmall, IsWide, ListText, barrier_words, call_words, join, op_words};
-ghost use Rattle.vk_trace.specs.Reading.{BadCond, Cut, Ends, IsBarrier, IsCondRead, IsHost, IsOpOf, IsTail, NoCommand, NoLine, ReadsCommand, ReadsLine, WhenBad, fields, line_kind_name, number_words, pair_words, tail_words, work_kind_name};
+ghost use Rattle.vk_trace.specs.Reading.{BadCond, Ends, IsBarrier, IsCondRead, IsHost, IsOpOf, IsTail, NoCommand, NoLine, ReadsCommand, ReadsLine, WhenBad, fields, line_kind_name, number_words, pair_words, tail_words, work_kind_name};
+ghost use Rattle.text_words.specs.Words.{Cut};
 
 use crate::kind::{LineKind, WorkKind, line_kind, work_kind};
 use crate::mask::is_source;
 use crate::trace_end::{Stop, TraceEnd};
-use crate::words::{Words, behind, cut};
+use crate::words::Words;
 use crate::work::work;
 use dx_types::Range;
 use std::alloc::Global;
+use text_words::next_line;
 use vk_types::{Barrier, Command, Cond, VkOp};
 
 // The call that a line ends in.
@@ -179,17 +181,6 @@ fn line(alloc: Global, text: &[u8]) -> Result<VkOp, Stop>
         return Err(Stop::Bad);
     };
     Ok(op)
-}
-
-// The line that stands in front, without its line feed, and what stands behind that; none where no line ends.
-fn next_line(text: &[u8]) -> Option<(&[u8], &[u8])>
-    ensures { MatchOption result ((line more : List ℕ) → text.now ≡ line ++ 10 ∷ more → ⊥) (λ l. Cut 10 text.now l.0.now (10 ∷ l.1.now)) }
-{
-    let (line, ended) = cut(text, b'\n');
-    match behind(b'\n', ended) {
-        Some(after) => Some((line, after)),
-        None => None,
-    }
 }
 
 /// The operations of a listing's text; or the first line that is no operation's, from 1. What stands behind the last

@@ -4,63 +4,27 @@ ghost use Rattle.std.specs.Prelude.{◌≡◌, ◌+◌, ◌-◌, ◌%◌, ◌<�
 ghost use Rattle.vk_types.specs.declared.access.Access.{Access};
 ghost use Rattle.vk_types.specs.declared.command.SlotName.{SlotName};
 ghost use Rattle.vk_trace.specs.ListText.{IsSmall, IsWide, block_word, shader_word, range_word, hex_word, access_word, slot_word, second_word, FitsSecond, size, slot_number, slot_rank};
-ghost use Rattle.vk_trace.specs.Reading.{IsRead, IsReadRange, plain, lower};
+ghost use Rattle.vk_trace.specs.Reading.{IsReadRange};
+ghost use Rattle.text_words.specs.Words.{IsRead, plain, lower};
 
-use crate::words::{behind, cut, is};
+use crate::words::is;
 use dx_types::Range;
 use hex::FromHex;
+use text_words::{behind, cut, is_lower, read_u8, read_u32, read_u64};
 use vk_types::{Access, SlotName};
-
-/// A number in decimal, below 2^64, without sign or leading zero.
-pub(crate) fn wide(word: &[u8]) -> Option<u64>
-    ensures { IsRead IsWide decimal word.now result }
-{
-    if !is_plain(word) {
-        return None;
-    }
-    let Ok(text) = str::from_utf8(word) else {
-        return None;
-    };
-    text.parse().ok()
-}
-
-// Whether a word has no sign and no leading zero, which parsing would take.
-fn is_plain(word: &[u8]) -> bool
-    ensures { result ≡ plain word.now }
-{
-    match word {
-        [b'+', ..] => false,
-        [b'0', rest @ ..] => rest.is_empty(),
-        _ => true,
-    }
-}
-
-/// A number below 2^32.
-pub(crate) fn small(word: &[u8]) -> Option<u32>
-    ensures { IsRead IsSmall decimal word.now result }
-{
-    u32::try_from(wide(word)?).ok()
-}
-
-// A number below 256.
-fn byte(word: &[u8]) -> Option<u8>
-    ensures { IsRead (λ n. n < 256) decimal word.now result }
-{
-    u8::try_from(wide(word)?).ok()
-}
 
 /// The number of a block.
 pub(crate) fn block(word: &[u8]) -> Option<u32>
     ensures { IsRead IsSmall block_word word.now result }
 {
-    small(behind(b'b', word)?)
+    read_u32(behind(b'b', word)?)
 }
 
 /// The call that creates a shader.
 pub(crate) fn shader(word: &[u8]) -> Option<u32>
     ensures { IsRead IsSmall shader_word word.now result }
 {
-    small(behind(b'p', word)?)
+    read_u32(behind(b'p', word)?)
 }
 
 /// A range, of one byte at least.
@@ -71,8 +35,8 @@ pub(crate) fn range(word: &[u8]) -> Option<Range>
     let (from, to) = cut(behind(b':', places)?, b'-');
     let range = Range {
         block: block(number)?,
-        from: wide(from)?,
-        to: wide(behind(b'-', to)?)?,
+        from: read_u64(from)?,
+        to: read_u64(behind(b'-', to)?)?,
     };
     if range.from >= range.to {
         return None;
@@ -89,18 +53,6 @@ pub(crate) fn memory_word(word: &[u8]) -> Option<u32>
     }
     let bytes = <[u8; 4] as FromHex>::from_hex(word).ok()?;
     Some(u32::from_be_bytes(bytes))
-}
-
-// Whether no byte is a capital letter, which decoding would take.
-fn is_lower(word: &[u8]) -> bool
-    ensures { result ≡ lower word.now }
-{
-    'bytes: for byte in word {
-        if byte.is_ascii_uppercase() {
-            return false;
-        }
-    }
-    true
 }
 
 /// An access.
@@ -125,9 +77,9 @@ pub(crate) fn slot_name(word: &[u8]) -> Option<SlotName>
     ensures { IsRead (λ s. slot_number s < 256) slot_word word.now result }
 {
     match word {
-        [b'c', number @ ..] => byte(number).map(SlotName::Constant),
-        [b's', number @ ..] => byte(number).map(SlotName::Srv),
-        [b'u', number @ ..] => byte(number).map(SlotName::Uav),
+        [b'c', number @ ..] => read_u8(number).map(SlotName::Constant),
+        [b's', number @ ..] => read_u8(number).map(SlotName::Srv),
+        [b'u', number @ ..] => read_u8(number).map(SlotName::Uav),
         _ => None,
     }
 }
@@ -151,5 +103,5 @@ pub(crate) fn second(word: &[u8]) -> Option<Option<u64>>
     if is(word, b"host") {
         return Some(None);
     }
-    Some(Some(wide(word)?))
+    Some(Some(read_u64(word)?))
 }

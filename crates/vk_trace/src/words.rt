@@ -2,30 +2,11 @@
 
 ghost use Rattle.std.specs.Prelude.{◌≡◌, ℕ, List, [], ◌∷◌, IsTrue, true, false, MatchOption};
 ghost use Rattle.std.specs.Bool.{MatchBool};
-ghost use Rattle.vk_trace.specs.Reading.{Cut, split, left_words};
+ghost use Rattle.vk_trace.specs.Reading.{split, left_words};
+ghost use Rattle.text_words.specs.Words.{Cut};
 
-use memchr::memchr;
 use std::marker::Model;
-
-/// The bytes before the first `stop`, and those from it on.
-pub(crate) fn cut(text: &[u8], stop: u8) -> (&[u8], &[u8])
-    ensures { Cut stop text.now result.0.now result.1.now }
-{
-    match memchr(stop, text) {
-        Some(at) => text.split_at(at),
-        None => text.split_at(text.len()),
-    }
-}
-
-/// What stands behind a byte in front; none where another byte stands there, or nothing.
-pub(crate) fn behind(byte: u8, text: &[u8]) -> Option<&[u8]>
-    ensures { MatchOption result ((rest : List ℕ) → text.now ≡ byte ∷ rest → ⊥) (λ rest. text.now ≡ byte ∷ rest.now) }
-{
-    match text {
-        [first, rest @ ..] if *first == byte => Some(rest),
-        _ => None,
-    }
-}
+use text_words::{behind, cut};
 
 /// Whether a word is this one.
 pub(crate) fn is(word: &[u8], other: &[u8]) -> bool

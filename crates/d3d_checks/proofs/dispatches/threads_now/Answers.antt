@@ -1,4 +1,4 @@
-use Rattle.std.proofs.Common.{◌≡◌, Option, ap, sym, ◌∙◌}
+use Rattle.std.proofs.Common.{Option, ap, sym, ◌∙◌}
 use Rattle.shader_model.specs.Dispatch.{volume}
 use Rattle.shader_model.specs.Shader.{Program}
 use Rattle.d3d_model.specs.D3dState.{bindings_of, words_set}

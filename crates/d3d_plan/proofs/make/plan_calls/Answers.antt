@@ -41,7 +41,7 @@ calls-preserved c =
     record {
       stands = subst (λ (t : State). Stands t new.objects new.uses) (sym (state_next log i x is)) (c.in_ok-plan_call.ensures.stands s c.calls.invariant.stands);
       shows = subst (λ (p : List Planned). Shows new.entries.items new.ranges.items p) (sym (plan_next log i x is))
-          (subst (λ (n : ℕ). Shows new.entries.items new.ranges.items (plan_of log i ++ planned_by n s (Some x) ∷ [])) at
+          (subst (λ (n : ℕ). Shows new.entries.items new.ranges.items (plan_of log i ++ planned_by (i + 1) n s (Some x) ∷ [])) at
           (c.in_ok-plan_call.ensures.shows s (plan_of log i) c.calls.invariant.stands c.calls.invariant.shows));
       place = place_next c.args.log.now.frames i f (sym c.in-Some.ensures.record) c.says_its_length.ensures c.calls.invariant.place;
     }

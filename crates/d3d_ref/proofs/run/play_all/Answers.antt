@@ -4,7 +4,8 @@ use Rattle.d3d_model.specs.InOrder.{after_calls}
 use Rattle.d3d_model.specs.ReplyText.{none_pending, reply_at, replies_upto}
 use Rattle.d3d_plan.specs.Planned.{Planned}
 use Rattle.d3d_plan.proofs.Entries.{length-plan_of}
-use Rattle.d3d_ref.proofs.Judgements.{judged, next_said}
+use Rattle.std.specs.Option.{option_copied}
+use Rattle.d3d_ref.proofs.Judgements.{created, judged, next_said}
 use Rattle.d3d_ref.proofs.run.play_all.Goals as goal
 
 pub calls-init : goal.calls-init
@@ -14,6 +15,17 @@ calls-init c = record { stands = record { objects = c.new-machine.ensures.object
 pub verdict-requires-clause-last : goal.verdict-requires-clause-last
 verdict-requires-clause-last c =
     omega (arith, ap (λ (l : List Planned). length l) c.requires.plan, length-plan_of (calls_of c.args.log.now.frames) (length c.args.log.now.frames), c.count-i-end.ensures.count, c.calls-test.true)
+
+pub shader-requires-clause-last : goal.shader-requires-clause-last
+shader-requires-clause-last c =
+    omega (arith, ap (λ (l : List Planned). length l) c.requires.plan, length-plan_of (calls_of c.args.log.now.frames) (length c.args.log.now.frames), c.count-i-end.ensures.count, c.calls-test.true)
+
+pub play-requires-clause-shader : goal.play-requires-clause-shader
+play-requires-clause-shader c =
+    let within : c.calls.i < length c.args.log.now.frames = omega (arith, c.count-i-end.ensures.count, c.calls-test.true) in
+    created c.args.log.now.frames c.args.plan.now c.calls.i c.refusal.result (option_copied c.shader.result) c.requires.plan within
+    (judged c.args.log.now.frames c.args.plan.now c.calls.i c.refusal.result c.requires.plan within c.requires.playable (ap Some c.refusal.ensures ∙ c.verdict.ensures))
+    c.shader.ensures
 
 pub play-requires-clause-judged : goal.play-requires-clause-judged
 play-requires-clause-judged c =

@@ -1,8 +1,8 @@
 use Rattle.std.proofs.Common.{◌≡◌, eqb, true, [], ℕ, List, length, sym, ap, ◌∙◌}
 use Rattle.std.proofs.lemmas.Bool.{eqb-true}
 use Rattle.std.proofs.lemmas.Result.{err_from_is_err_and}
-use Rattle.log_text.specs.Reading.{HasShape}
-use Rattle.log_text.specs.declared.form.Shape.TheVariants.{Numbers}
+use Rattle.log_text.specs.Reading.{HasLayout}
+use Rattle.call_log.specs.declared.kinds.Layout.TheVariants.{Words}
 use Rattle.log_text.proofs.Results.{when_bad}
 use Rattle.log_text.proofs.Bodies.{length-words_of, AreWords-words_of}
 use Rattle.log_text.proofs.Shapes.{numbers_put, numbers_text, numbers_rest}
@@ -13,13 +13,13 @@ returns-in_err-rest-clause-bad c =
     let p = err_from_is_err_and c.from_residual.result c.from_residual.ensures.1 in
     rw (p.1, p.2) (
     when_bad c.in_err-rest.field-0.0 _ _
-    (λ none (b : List ℕ) (h : HasShape (Numbers c.args.n) b) is. none _ [] (length-words_of c.args.n b) (AreWords-words_of c.args.n b h.bytes) tt (numbers_text c.args.n _ b is))
+    (λ none (b : List ℕ) (h : HasLayout (Words c.args.n) b) is. none _ [] (length-words_of c.args.n b) (AreWords-words_of c.args.n b h.bytes) tt (numbers_text c.args.n _ b is))
     c.in_err-rest.ensures.bad
     )
 
 pub returns-then-not-is_empty-clause-bad : goal.returns-then-not-is_empty-clause-bad
 returns-then-not-is_empty-clause-bad c =
-    λ (b : List ℕ) (h : HasShape (Numbers c.args.n) b) is.
+    λ (b : List ℕ) (h : HasLayout (Words c.args.n) b) is.
     let none : eqb (length c.in_ok-rest.rest.now) 0 ≡ true =
     ap (λ (l : List ℕ). eqb (length l) 0) (numbers_rest c.args.n _ _ _ _ b c.in_ok-rest.ensures.found.0 c.in_ok-rest.ensures.found.1 h is) in
     cc

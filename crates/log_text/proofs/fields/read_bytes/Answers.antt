@@ -1,6 +1,6 @@
 use Rattle.std.proofs.Common.{◌≡◌, length, sym, ap, ◌∙◌, arith}
 use Rattle.std.proofs.lemmas.Bool.{eqb-true}
-use Rattle.log_text.proofs.Hex.{field_some, field_from, word_pos}
+use Rattle.log_text.proofs.ByteFields.{field_some, field_from, word_pos}
 use Rattle.log_text.proofs.Results.{on_ok}
 use Rattle.log_text.proofs.fields.read_bytes.Goals as goal
 

@@ -1,7 +1,7 @@
 use Rattle.std.proofs.Common.{ℕ, List}
 use Rattle.std.proofs.lemmas.Result.{err_from_is_err_and}
-use Rattle.log_text.specs.Reading.{HasShape}
-use Rattle.log_text.specs.declared.form.Shape.TheVariants.{Bytes}
+use Rattle.log_text.specs.Reading.{HasLayout}
+use Rattle.call_log.specs.declared.kinds.Layout.TheVariants.{Counted}
 use Rattle.log_text.proofs.Results.{on_ok, when_bad, if_bad}
 use Rattle.log_text.proofs.Bodies.{length-words_of, AreWords-words_of, AreBytes-drop, stops_field}
 use Rattle.log_text.proofs.Shapes.{bytes_put, bytes_text, bytes_rest}
@@ -12,7 +12,7 @@ returns-in_err-rest-clause-bad c =
     let p = err_from_is_err_and c.from_residual.result c.from_residual.ensures.1 in
     rw (p.1, p.2) (
     when_bad c.in_err-rest.field-0.0 _ _
-    (λ none (b : List ℕ) (h : HasShape (Bytes c.args.n) b) is. none _ _ (length-words_of c.args.n b) (AreWords-words_of c.args.n b h.bytes) (stops_field _) (bytes_text c.args.n _ b is))
+    (λ none (b : List ℕ) (h : HasLayout (Counted c.args.n) b) is. none _ _ (length-words_of c.args.n b) (AreWords-words_of c.args.n b h.bytes) (stops_field _) (bytes_text c.args.n _ b is))
     c.in_err-rest.ensures.bad
     )
 
@@ -25,6 +25,6 @@ returns-clause-found c =
 pub returns-clause-bad : goal.returns-clause-bad
 returns-clause-bad c =
     if_bad c.read_bytes.result _ _
-    (λ none (b : List ℕ) (h : HasShape (Bytes c.args.n) b) is.
+    (λ none (b : List ℕ) (h : HasLayout (Counted c.args.n) b) is.
     none _ (AreBytes-drop _ b h.bytes) (bytes_rest c.args.n _ _ _ _ b c.in_ok-rest.ensures.found.0 c.in_ok-rest.ensures.found.1 h is))
     c.read_bytes.ensures.bad

@@ -1,7 +1,8 @@
 use Rattle.std.proofs.Common.{◌≡◌, ℕ, List, true, drop, replicate, vec_len, ◌+◌, ◌/◌, ◌-◌, length, sym, ap, ◌∙◌, arith}
 use Rattle.std.proofs.lemmas.List.{length-replicate}
-use Rattle.log_text.specs.Reading.{lower}
-use Rattle.log_text.proofs.Hex.{encode_sized, decode_back, lower_encode, put_decoded}
+use Rattle.text_words.specs.Words.{lower}
+use Rattle.log_text.proofs.ByteFields.{put_decoded}
+use Rattle.text_words.proofs.Hex.{encode_sized, decode_back, lower_encode}
 use Rattle.log_text.proofs.fields.read_hex.Goals as goal
 
 pub returns-then-not-is_lower-clause-bad : goal.returns-then-not-is_lower-clause-bad

@@ -1,4 +1,5 @@
-use Rattle.log_text.specs.Reading.{ReadsNumbers, StopsAt}
+use Rattle.log_text.specs.Reading.{ReadsNumbers}
+use Rattle.text_words.specs.Words.{StopsAt}
 use Rattle.log_text.proofs.fields.read_numbers.Given as goal
 
 abbrev pub invariant-numbers : goal.invariant-numbers

@@ -1,7 +1,7 @@
 use Rattle.std.proofs.Common.{◌%◌, ℕ, List, ap, ◌∙◌}
 use Rattle.std.proofs.lemmas.Result.{err_from_is_err_and}
-use Rattle.log_text.specs.Reading.{HasShape}
-use Rattle.log_text.specs.declared.form.Shape.TheVariants.{Tokens}
+use Rattle.log_text.specs.Reading.{HasLayout}
+use Rattle.call_log.specs.declared.kinds.Layout.TheVariants.{Tokens}
 use Rattle.log_text.proofs.Results.{on_ok, when_bad, if_bad}
 use Rattle.log_text.proofs.Bodies.{length-words_of, AreWords-words_of, AreBytes-drop, stops_field}
 use Rattle.log_text.proofs.Shapes.{tokens_put, tokens_text, tokens_rest, tokens_whole}
@@ -12,13 +12,13 @@ returns-in_err-rest-clause-bad c =
     let p = err_from_is_err_and c.from_residual.result c.from_residual.ensures.1 in
     rw (p.1, p.2) (
     when_bad c.in_err-rest.field-0.0 _ _
-    (λ none (b : List ℕ) (h : HasShape Tokens b) is. none _ _ (length-words_of 1 b) (AreWords-words_of 1 b h.bytes) (stops_field _) (tokens_text _ b is))
+    (λ none (b : List ℕ) (h : HasLayout Tokens b) is. none _ _ (length-words_of 1 b) (AreWords-words_of 1 b h.bytes) (stops_field _) (tokens_text _ b is))
     c.in_err-rest.ensures.bad
     )
 
 pub returns-then-byte_count-ne0-clause-bad : goal.returns-then-byte_count-ne0-clause-bad
 returns-then-byte_count-ne0-clause-bad c =
-    λ (b : List ℕ) (h : HasShape Tokens b) is.
+    λ (b : List ℕ) (h : HasLayout Tokens b) is.
     let e = tokens_rest _ _ _ _ b c.in_ok-rest.ensures.found.0 c.in_ok-rest.ensures.found.1 h is in
     c.if-byte_count-ne0.true (ap (λ (k : ℕ). k % 4) (c.byte_count.ensures _ e) ∙ tokens_whole b h)
 
@@ -31,6 +31,6 @@ returns-clause-found c =
 pub returns-clause-bad : goal.returns-clause-bad
 returns-clause-bad c =
     if_bad c.read_bytes.result _ _
-    (λ none (b : List ℕ) (h : HasShape Tokens b) is.
+    (λ none (b : List ℕ) (h : HasLayout Tokens b) is.
     none _ (AreBytes-drop 4 b h.bytes) (tokens_rest _ _ _ _ b c.in_ok-rest.ensures.found.0 c.in_ok-rest.ensures.found.1 h is))
     c.read_bytes.ensures.bad

@@ -1,7 +1,7 @@
 use Rattle.std.proofs.Common.{◌∷◌, [], length, sym, ap, ◌∙◌, arith}
 use Rattle.std.proofs.lemmas.List.{length-append}
 use Rattle.std.proofs.lemmas.Slice.Eq.{bytes_eq-Decides}
-use Rattle.log_text.proofs.Cuts.{same_bytes, none_left, not_both}
+use Rattle.text_words.proofs.Cutting.{same_bytes, none_left, not_both}
 use Rattle.log_text.proofs.Lines.{first_cut, bad_first, bad_unended, bad_call, whole_text, assembles_more}
 use Rattle.log_text.proofs.read.asm.Goals as goal
 

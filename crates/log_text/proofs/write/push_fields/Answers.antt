@@ -4,15 +4,15 @@ use Rattle.log_text.proofs.Written.{bytes_written}
 use Rattle.log_text.proofs.Results.{on_ok}
 use Rattle.log_text.proofs.write.push_fields.Goals as goal
 
-pub returns-in-Numbers : goal.returns-in-Numbers
+pub returns-in-Words : goal.returns-in-Words
 unfolding fields
-returns-in-Numbers c = rw c.in-Numbers.is c.push_numbers.ensures
+returns-in-Words c = rw c.in-Words.is c.push_numbers.ensures
 
-pub returns-in_ok-push_numbers-in-Bytes : goal.returns-in_ok-push_numbers-in-Bytes
+pub returns-in_ok-push_numbers-in-Counted : goal.returns-in_ok-push_numbers-in-Counted
 unfolding fields
-returns-in_ok-push_numbers-in-Bytes c =
-    rw c.in-Bytes.is (
-    on_ok c.push_bytes.result _ _ (bytes_written c.in-Bytes.n (4 * c.in-Bytes.n + 4) _ _ _ c.args.body.now _ c.in_ok-push_numbers-in-Bytes.ensures c.tail.ensures) c.push_bytes.ensures
+returns-in_ok-push_numbers-in-Counted c =
+    rw c.in-Counted.is (
+    on_ok c.push_bytes.result _ _ (bytes_written c.in-Counted.n (4 * c.in-Counted.n + 4) _ _ _ c.args.body.now _ c.in_ok-push_numbers-in-Counted.ensures c.tail.ensures) c.push_bytes.ensures
     )
 
 pub returns-in_ok-push_numbers-in-Tokens : goal.returns-in_ok-push_numbers-in-Tokens
@@ -22,6 +22,6 @@ returns-in_ok-push_numbers-in-Tokens c =
     on_ok c.push_bytes-in-Tokens.result _ _ (bytes_written 1 4 _ _ _ c.args.body.now _ c.in_ok-push_numbers-in-Tokens.ensures c.tail-in-Tokens.ensures) c.push_bytes-in-Tokens.ensures
     )
 
-pub returns-in-Body : goal.returns-in-Body
+pub returns-in-Free : goal.returns-in-Free
 unfolding fields
-returns-in-Body c = rw c.in-Body.is c.push_bytes-in-Body.ensures
+returns-in-Free c = rw c.in-Free.is c.push_bytes-in-Free.ensures

@@ -1,5 +1,5 @@
 use Rattle.std.proofs.Common.{sym, ◌∙◌}
-use Rattle.log_text.proofs.Cuts.{none_left}
+use Rattle.text_words.proofs.Cutting.{none_left}
 use Rattle.log_text.proofs.Written.{pieces_step, pieces_end}
 use Rattle.log_text.proofs.write.push_hex.Goals as goal
 

@@ -1,6 +1,6 @@
 use Rattle.std.proofs.Common.{sym, subst}
 use Rattle.std.specs.Str.{IsUtf8}
-use Rattle.log_text.proofs.Hex.{IsUtf8-encode_lower}
+use Rattle.text_words.proofs.Hex.{IsUtf8-encode_lower}
 use Rattle.log_text.proofs.Results.{not_err}
 use Rattle.log_text.proofs.write.push_piece.Goals as goal
 

@@ -1,5 +1,5 @@
 use Rattle.std.proofs.Common.{sym, subst}
-use Rattle.spirv_words.specs.Meaning.ModuleDispatch.{IsDefined}
+use Rattle.spirv_model.specs.Meaning.ModuleDispatch.{IsDefined}
 use Rattle.spirv_run.proofs.Samples.{counter_defined}
 use Rattle.module_tests.proofs.machine.counter.Goals as goal
 

@@ -3,7 +3,7 @@ use Rattle.std.proofs.lemmas.List.{drop_all}
 use Rattle.shader_model.specs.Body.{Plain, If, Loop, Break, Continue, Return, body_of, node_before}
 use Rattle.shader_model.proofs.Trees.{before_plain, before_if, before_loop, before_break, before_continue, before_return, of_none}
 use Rattle.spirv_emit.specs.Numbers.{with_numbers, instr_numbers, test_numbers, body_numbers}
-use Rattle.spirv_emit.proofs.Joining.{of_here, with_append, numbered_by}
+use Rattle.spirv_emit.proofs.Words.Nodes.{of_here, with_append, numbered_by}
 use Rattle.spirv_emit.proofs.collect.+collect.Goals as goal
 
 pub add_nodes-loop-node-preserved : goal.add_nodes-loop-node-preserved

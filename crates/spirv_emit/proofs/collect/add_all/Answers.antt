@@ -1,7 +1,7 @@
 use Rattle.std.proofs.Common.{◌+◌, drop, sym, ap, ◌∙◌}
 use Rattle.std.proofs.lemmas.List.{drop_all}
 use Rattle.spirv_emit.specs.Numbers.{with_numbers}
-use Rattle.spirv_emit.proofs.Joining.{numbers_step}
+use Rattle.spirv_emit.proofs.Words.Nodes.{numbers_step}
 use Rattle.spirv_emit.proofs.collect.add_all.Goals as goal
 
 pub loop-number-preserved : goal.loop-number-preserved

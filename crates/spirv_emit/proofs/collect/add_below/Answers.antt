@@ -1,6 +1,6 @@
 use Rattle.std.proofs.Common.{◌+◌, ◌-◌, sym, ap, ◌∙◌}
 use Rattle.spirv_emit.specs.Numbers.{with_numbers, from_on}
-use Rattle.spirv_emit.proofs.Joining.{from_front, from_done}
+use Rattle.spirv_emit.proofs.Words.Nodes.{from_front, from_done}
 use Rattle.spirv_emit.proofs.collect.add_below.Goals as goal
 
 pub loop-number-preserved : goal.loop-number-preserved

@@ -2,7 +2,7 @@ use Rattle.std.proofs.Common.{◌+◌, drop, sym, ap, ◌∙◌}
 use Rattle.std.specs.Prelude.{flat_map}
 use Rattle.std.proofs.lemmas.List.{drop_all}
 use Rattle.spirv_emit.specs.Numbers.{with_numbers, declared_numbers}
-use Rattle.spirv_emit.proofs.Joining.{flat_front}
+use Rattle.spirv_emit.proofs.Words.Nodes.{flat_front}
 use Rattle.spirv_emit.proofs.collect.add_declared.Goals as goal
 
 pub loop-one-preserved : goal.loop-one-preserved

@@ -2,7 +2,7 @@ use Rattle.std.proofs.Common.{◌+◌, drop, sym, ap, ◌∙◌, None}
 use Rattle.std.specs.Prelude.{flat_map}
 use Rattle.std.proofs.lemmas.List.{drop_all}
 use Rattle.spirv_emit.specs.Numbers.{with_numbers, operand_numbers}
-use Rattle.spirv_emit.proofs.Joining.{flat_front}
+use Rattle.spirv_emit.proofs.Words.Nodes.{flat_front}
 use Rattle.spirv_emit.proofs.collect.add_operands.Goals as goal
 
 pub loop-operand-preserved : goal.loop-operand-preserved

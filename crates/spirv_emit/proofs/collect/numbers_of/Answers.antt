@@ -2,7 +2,7 @@ use Rattle.std.proofs.Common.{◌≡◌, [], ◌∷◌, refl, sym, ap, ◌∙◌
 use Rattle.std.specs.Prelude.{flat_map}
 use Rattle.shader_model.specs.Body.{body_of}
 use Rattle.spirv_emit.specs.Numbers.{from_on, with_numbers, own_numbers, declared_numbers, body_numbers}
-use Rattle.spirv_emit.proofs.Joining.{with_append}
+use Rattle.spirv_emit.proofs.Words.Nodes.{with_append}
 use Rattle.spirv_emit.proofs.collect.numbers_of.Goals as goal
 
 own_is : with_numbers (with_numbers [] (from_on 0 38)) (4096 ∷ 0xffff_ffff ∷ []) ≡ own_numbers

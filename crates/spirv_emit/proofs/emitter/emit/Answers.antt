@@ -3,12 +3,12 @@ use Rattle.shader_model.specs.declared.ids.Ids.{Ids}
 use Rattle.shader_model.specs.Shader.{program_of}
 use Rattle.shader_model.specs.Invocation.{Slots, invoked}
 use Rattle.shader_model.specs.Dispatch.{is_allowed, dispatched}
-use Rattle.spirv_words.specs.Meaning.Bindings.{SlotsFit}
-use Rattle.spirv_words.specs.Meaning.ModuleMeaning.{module_meaning}
-use Rattle.spirv_words.specs.Meaning.ModuleDispatch.{InRange, IsDefined, group_of, module_dispatched}
+use Rattle.spirv_model.specs.Meaning.Bindings.{SlotsFit}
+use Rattle.spirv_model.specs.Meaning.ModuleMeaning.{module_meaning}
+use Rattle.spirv_model.specs.Meaning.ModuleDispatch.{InRange, IsDefined, group_of, module_dispatched}
 use Rattle.spirv_emit.specs.Module.{module_of}
-use Rattle.spirv_emit.proofs.Modules.{group_is, module_defined, module_means_good}
-use Rattle.spirv_emit.proofs.Dispatching.{module_dispatches}
+use Rattle.spirv_emit.proofs.Meaning.GoodShaders.{group_is, module_defined, module_means_good}
+use Rattle.spirv_emit.proofs.Meaning.Dispatches.{module_dispatches}
 use Rattle.spirv_emit.proofs.Emitted.{if_made}
 use Rattle.spirv_emit.proofs.emitter.emit.Goals as goal
 

@@ -1,7 +1,7 @@
 use Rattle.std.proofs.Common.{◌≡◌, ◌++◌, Some, Err, ap, ◌∙◌, subst}
 use Rattle.shader_model.specs.Shader.{program_of}
-use Rattle.spirv_words.specs.Words.{header}
-use Rattle.spirv_words.specs.FirstBad.{first_bad}
+use Rattle.spirv_model.specs.Words.{header}
+use Rattle.spirv_model.specs.FirstBad.{first_bad}
 use Rattle.spirv_words.specs.Reading.{IfBad}
 use Rattle.spirv_emit.proofs.Emitted.{module_is, words_few, none_bad}
 use Rattle.spirv_emit.proofs.emitter.finish.Goals as goal

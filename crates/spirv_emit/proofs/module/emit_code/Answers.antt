@@ -2,9 +2,9 @@ use Rattle.std.proofs.Common.{◌+◌, ◌<◌, ◌^◌, length, refl, ap, arith
 use Rattle.shader_model.specs.Shader.{program_of}
 use Rattle.spirv_emit.specs.Module.{constants, body_start}
 use Rattle.spirv_emit.specs.Emits.{layout_of}
-use Rattle.spirv_emit.proofs.Appending.{appends_to}
-use Rattle.spirv_emit.proofs.Wholly.{module_made}
-use Rattle.spirv_emit.proofs.Costs.{ready_of}
+use Rattle.spirv_emit.proofs.Words.Appending.{appends_to}
+use Rattle.spirv_emit.proofs.Words.ModuleParts.{module_made}
+use Rattle.spirv_emit.proofs.Size.SmallPieces.{ready_of}
 use Rattle.spirv_emit.proofs.module.emit_code.Goals as goal
 
 pub emit_function-requires-clause-ready : goal.emit_function-requires-clause-ready

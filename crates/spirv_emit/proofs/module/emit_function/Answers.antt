@@ -2,7 +2,7 @@ use Rattle.std.proofs.Common.{◌+◌, refl, ap}
 use Rattle.shader_model.specs.Body.{body_of}
 use Rattle.shader_model.specs.Shader.{program_of}
 use Rattle.spirv_emit.specs.Emits.{layout_of}
-use Rattle.spirv_emit.proofs.Wholly.{function_made}
+use Rattle.spirv_emit.proofs.Words.ModuleParts.{function_made}
 use Rattle.spirv_emit.proofs.module.emit_function.Goals as goal
 
 pub returns : goal.returns

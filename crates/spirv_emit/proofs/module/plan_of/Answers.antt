@@ -1,6 +1,6 @@
 use Rattle.std.proofs.Common.{length, ap, arith}
 use Rattle.shader_model.specs.Shader.{program_of}
-use Rattle.spirv_emit.proofs.FewNumbers.{numbers_few}
+use Rattle.spirv_emit.proofs.Size.FewNumbers.{numbers_few}
 use Rattle.spirv_emit.proofs.module.plan_of.Goals as goal
 
 pub invariant_of-result : goal.invariant_of-result

@@ -1,15 +1,15 @@
 use Rattle.std.proofs.Common.{rules, ◌≡◌, ◌+◌, ◌<◌, ◌^◌, ◌++◌, drop, refl, sym, ap, ◌∙◌, subst, arith}
 use Rattle.std.specs.Prelude.{not}
 use Rattle.std.proofs.lemmas.List.{drop_all}
-use Rattle.spirv_words.specs.Op as op
+use Rattle.spirv_model.specs.Op as op
 use Rattle.shader_model.specs.declared.tree.Node.TheViews.{the_lemmas}
 use Rattle.shader_model.specs.Body.{Plain, If, Loop, Break, Continue, Return, End, body_of, node_before}
 use Rattle.shader_model.proofs.Trees.{before_plain, before_if, before_loop, before_break, before_continue, before_return, of_none}
 use Rattle.spirv_emit.specs.Lower.{instr_pieces, test_pieces, test_calculation}
 use Rattle.spirv_emit.specs.Code.{calculation_size, pieces_ops, pieces_end, choose_by, test_start, test_end, behind_test, loop_ops, inner_start, body_ops, body_end}
 use Rattle.spirv_emit.specs.Emits.{layout_of, written, BodyIsSmall}
-use Rattle.spirv_emit.proofs.Joining.{two_sided, maybe_room, if_small, small_here, joins_by, joins_left, stops_left, of_here, loop_made, node_end}
-use Rattle.spirv_emit.proofs.Shape as shape
+use Rattle.spirv_emit.proofs.Words.Nodes.{two_sided, maybe_room, if_small, small_here, joins_by, joins_left, stops_left, of_here, loop_made, node_end}
+use Rattle.spirv_emit.proofs.Words.LabelRanges as shape
 use Rattle.spirv_emit.proofs.nodes.+nodes.Goals as goal
 
 -- ids of 32 bits

@@ -1,6 +1,6 @@
 use Rattle.std.proofs.Common.{◌≡◌, ◌-◌, length, map, ap, ◌∙◌, arith}
-use Rattle.spirv_words.specs.FirstBad.{reading}
-use Rattle.spirv_words.specs.View.{shown}
+use Rattle.spirv_model.specs.FirstBad.{reading}
+use Rattle.spirv_model.specs.View.{shown}
 use Rattle.spirv_run.proofs.Decoded.{read_whole, empty_read, bad_count_read, bad_opcode_read, more_read, no_words_left}
 use Rattle.spirv_run.proofs.decode.instructions.Goals as goal
 

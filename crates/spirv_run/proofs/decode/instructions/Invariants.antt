@@ -1,6 +1,6 @@
 use Rattle.std.proofs.Common.{◌≡◌, ◌-◌, ◌++◌, length, map}
-use Rattle.spirv_words.specs.FirstBad.{reading}
-use Rattle.spirv_words.specs.View.{shown}
+use Rattle.spirv_model.specs.FirstBad.{reading}
+use Rattle.spirv_model.specs.View.{shown}
 use Rattle.spirv_run.proofs.decode.instructions.Given as goal
 
 abbrev pub invariant-words : goal.invariant-words

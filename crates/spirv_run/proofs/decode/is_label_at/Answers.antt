@@ -1,5 +1,5 @@
 use Rattle.std.proofs.Common.{◌∙◌}
-use Rattle.spirv_words.specs.View.{shown}
+use Rattle.spirv_model.specs.View.{shown}
 use Rattle.spirv_run.proofs.Decoded.{label_there}
 use Rattle.spirv_run.proofs.decode.is_label_at.Goals as goal
 

@@ -1,5 +1,5 @@
 use Rattle.std.proofs.Common.{◌+◌, ◌++◌, map, drop, sym, ap, ◌∙◌}
-use Rattle.spirv_words.specs.View.{shown}
+use Rattle.spirv_model.specs.View.{shown}
 use Rattle.spirv_run.specs.Decoding.{steps_from}
 use Rattle.spirv_run.proofs.Decoded.{mapped_at, one_stepped}
 use Rattle.spirv_run.proofs.decode.steps.Goals as goal

@@ -1,5 +1,5 @@
 use Rattle.std.proofs.Common.{◌≡◌, ◌++◌, drop, map}
-use Rattle.spirv_words.specs.View.{shown}
+use Rattle.spirv_model.specs.View.{shown}
 use Rattle.spirv_run.specs.Decoding.{steps_from}
 use Rattle.spirv_run.proofs.decode.steps.Given as goal
 

@@ -1,7 +1,7 @@
 use Rattle.std.proofs.Common.{◌≡◌, sym, subst, ap, ◌∙◌}
 use Rattle.shader_model.specs.declared.ids.Ids.{Ids}
-use Rattle.spirv_words.specs.Meaning.ModuleMeaning.{module_meaning}
-use Rattle.spirv_words.specs.Meaning.ModuleDispatch.{group_of}
+use Rattle.spirv_model.specs.Meaning.ModuleMeaning.{module_meaning}
+use Rattle.spirv_model.specs.Meaning.ModuleDispatch.{group_of}
 use Rattle.spirv_run.specs.Threads.{IsPlaced}
 use Rattle.spirv_run.proofs.Walking.{is_placed, in_range, slots_fit, has_outcome}
 use Rattle.spirv_run.proofs.Stepping.{read_to_end}

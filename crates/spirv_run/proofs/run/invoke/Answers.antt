@@ -1,5 +1,5 @@
 use Rattle.std.proofs.Common.{◌≡◌, ◌+◌, ◌*◌, ◌-◌, ℕ, length, drop, refl, ap, ◌∙◌, arith}
-use Rattle.spirv_words.specs.Meaning.ModuleMeaning.{runs, begun}
+use Rattle.spirv_model.specs.Meaning.ModuleMeaning.{runs, begun}
 use Rattle.spirv_run.specs.Held.{memory_of}
 use Rattle.spirv_run.specs.Decoding.{ops_of}
 use Rattle.spirv_run.proofs.Stepping.{whole_meaning}

@@ -1,5 +1,5 @@
 use Rattle.std.proofs.Common.{◌≡◌, ◌+◌, ◌-◌, drop, refl, sym, ap, ◌∙◌, arith}
-use Rattle.spirv_words.specs.Meaning.ModuleMeaning.{runs}
+use Rattle.spirv_model.specs.Meaning.ModuleMeaning.{runs}
 use Rattle.spirv_run.specs.Held.{memory_of}
 use Rattle.spirv_run.specs.Steps.{continued}
 use Rattle.spirv_run.specs.Decoding.{ops_of}

@@ -1,8 +1,8 @@
 use Rattle.std.proofs.Common.{◌≡◌, ℕ, List, length, map, true, sym, ap, ◌∙◌, arith}
-use Rattle.spirv_words.specs.Op.{Op}
-use Rattle.spirv_words.specs.View.{shown}
-use Rattle.spirv_words.specs.History.{after}
-use Rattle.spirv_words.specs.FirstBad.{Reading, total_words, ends_function, late_fault, body_fault}
+use Rattle.spirv_model.specs.Op.{Op}
+use Rattle.spirv_model.specs.View.{shown}
+use Rattle.spirv_model.specs.History.{after}
+use Rattle.spirv_model.specs.FirstBad.{Reading, total_words, ends_function, late_fault, body_fault}
 use Rattle.spirv_words.specs.declared.known.Known.{Known}
 use Rattle.spirv_words.specs.Known.{history}
 use Rattle.spirv_words.specs.Reading.{reading_of, IsRead}

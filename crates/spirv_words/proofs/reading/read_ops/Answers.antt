@@ -1,7 +1,7 @@
 use Rattle.std.proofs.Common.{◌≡◌, ℕ, ◌+◌, List, ◌∷◌, length, None, Some, subst, sym, ap, ◌∙◌, arith}
-use Rattle.spirv_words.specs.Op.{Op}
-use Rattle.spirv_words.specs.View.{shown}
-use Rattle.spirv_words.specs.FirstBad.{Reading, word_count, total_words}
+use Rattle.spirv_model.specs.Op.{Op}
+use Rattle.spirv_model.specs.View.{shown}
+use Rattle.spirv_model.specs.FirstBad.{Reading, word_count, total_words}
 use Rattle.spirv_words.specs.Known.{history}
 use Rattle.spirv_words.specs.Reading.{reading_of, read_fault, instruction_fault}
 use Rattle.spirv_words.proofs.Walking.{Left, left_next, left_refused, left_count, left_opcode, left_done, left_all, split_first, no_words, words_left, fault_follows}

@@ -1,5 +1,5 @@
 use Rattle.std.proofs.Common.{◌≡◌, ◌+◌, length}
-use Rattle.spirv_words.specs.FirstBad.{first_fault}
+use Rattle.spirv_model.specs.FirstBad.{first_fault}
 use Rattle.spirv_words.proofs.verdict.first_wrong.Given as goal
 
 abbrev pub invariant-verdicts : goal.invariant-verdicts

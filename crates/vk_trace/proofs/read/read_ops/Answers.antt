@@ -1,6 +1,6 @@
 use Rattle.std.proofs.Common.{length, ap, sym, ◌∙◌, ◌∷◌, arith}
 use Rattle.std.proofs.lemmas.List.{length-append}
-use Rattle.vk_trace.proofs.Cuts.{some_left}
+use Rattle.text_words.proofs.Cutting.{some_left}
 use Rattle.vk_trace.proofs.Texts.{reads_more, bad_unended, bad_words}
 use Rattle.vk_trace.proofs.read.read_ops.Goals as goal
 

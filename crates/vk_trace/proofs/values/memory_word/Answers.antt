@@ -1,6 +1,6 @@
 use Rattle.std.proofs.Common.{ap, sym, ◌∙◌}
 use Rattle.vk_trace.specs.ListText.{IsSmall, hex_word}
-use Rattle.vk_trace.specs.Reading.{lower}
+use Rattle.text_words.specs.Words.{lower}
 use Rattle.vk_trace.proofs.Spelled.{none_read, lower_hex, hex_decodes, hex_read, ok_value, no_value}
 use Rattle.vk_trace.proofs.values.memory_word.Goals as goal
 

@@ -1,6 +1,6 @@
 use Rattle.std.proofs.Common.{sym, subst}
 use Rattle.std.specs.Str.{IsUtf8}
-use Rattle.vk_trace.proofs.Hex.{IsUtf8-encode_lower}
+use Rattle.text_words.proofs.Hex.{IsUtf8-encode_lower}
 use Rattle.vk_trace.proofs.Results.{not_err}
 use Rattle.vk_trace.proofs.write.push_memory_word.Goals as goal
 

@@ -2,15 +2,16 @@ use Rattle.std.proofs.Common.{◌≡◌, ◌++◌, List, [], ◌∷◌, None, le
 use Rattle.std.proofs.lemmas.Result.{on_ok_weaker}
 use Rattle.dx_types.specs.declared.range.ResRange.{ResRange}
 use Rattle.call_log.specs.View.{call_view}
-use Rattle.d3d_model.specs.D3dState.{Objects}
+use Rattle.d3d_model.specs.D3dState.{Objects, Shader}
 use Rattle.d3d_model.specs.Uses.{use_in}
 use Rattle.d3d_state.specs.Meaning.{objects_of}
-use Rattle.d3d_checks.specs.Bound.{bound_of}
+use Rattle.d3d_effects.specs.Bound.{bound_of}
 use Rattle.d3d_plan.specs.Planned.{Planned, span_in}
-use Rattle.d3d_checks.specs.Created.{token_words}
+use Rattle.d3d_checks.specs.Created.{shader_made, token_words}
 use Rattle.dx_types.specs.declared.range.Span.{Span}
+use Rattle.std.specs.Option.{option_map}
 use Rattle.std.specs.Prelude.{Option}
-use Rattle.d3d_plan.specs.Shown.{Shows}
+use Rattle.d3d_plan.specs.Shown.{Shows, span_of}
 use Rattle.d3d_plan.specs.declared.entry.Entry.{Entry}
 use Rattle.d3d_plan.proofs.Steps.{always, stands_after}
 use Rattle.d3d_plan.proofs.Tables.{last_part, shows_more}
@@ -36,13 +37,16 @@ returns-clause-shows c =
     omega (arith, c.len-end.ensures, c.push_bound.new.ranges.ok.0, ap (λ (rs : List ResRange). length rs) c.in_ok-push_bound.ensures) in
     on_ok_weaker c.push_entry.result
     (λ pushed s plan st shows.
-    let e : Entry = record { verdict = None; last_use = c.last_use-last.result; words = c.in_ok-words.words; start = c.len-start.result; end = c.len-end.result } in
-    let p : Planned = record { verdict = None; last_use = use_in s call; bound = bound_of s.objects call; words = span_in c.args.at (token_words call) } in
+    let e : Entry = record { verdict = None; last_use = c.last_use-last.result; words = c.in_ok-words.words; shader = c.in_ok-shared.shared; start = c.len-start.result; end = c.len-end.result } in
+    let made = shader_made c.args.n call in
+    let p : Planned = record { verdict = None; last_use = use_in s call; bound = bound_of s.objects call; words = span_in c.args.at (token_words call); shader = made } in
+    let kept : made ≡ c.in_ok-shared.shared = sym (c.in_ok-shared.ensures ∙ c.as_ref.ensures.value ∙ c.requires.shader) in
     let shown =
     shows_more old.entries.items old.ranges.items more plan e p shows starts ends
-    (ap (λ u. record { verdict = None; last_use = u; bound = bound_of s.objects call; words = span_in c.args.at (token_words call) }) (sym (c.last_use-last.ensures s st))
-    ∙ ap (λ (o : Objects). record { verdict = None; last_use = c.last_use-last.result; bound = bound_of o call; words = span_in c.args.at (token_words call) }) (sym st.same)
-    ∙ ap (λ (w : Option Span). record { verdict = None; last_use = c.last_use-last.result; bound = more; words = w }) (sym c.in_ok-words.ensures)) in
+    (ap (λ u. record { verdict = None; last_use = u; bound = bound_of s.objects call; words = span_in c.args.at (token_words call); shader = made }) (sym (c.last_use-last.ensures s st))
+    ∙ ap (λ (o : Objects). record { verdict = None; last_use = c.last_use-last.result; bound = bound_of o call; words = span_in c.args.at (token_words call); shader = made }) (sym st.same)
+    ∙ ap (λ (w : Option Span). record { verdict = None; last_use = c.last_use-last.result; bound = more; words = w; shader = made }) (sym c.in_ok-words.ensures)
+    ∙ ap (λ (m : Option Shader). record { verdict = None; last_use = c.last_use-last.result; bound = more; words = option_map span_of c.in_ok-words.words; shader = m }) kept) in
     subst (λ (es : List Entry). Shows es c.push_bound.new.ranges.items (plan ++ p ∷ [])) (sym pushed)
     (subst (λ (rs : List ResRange). Shows (old.entries.items ++ e ∷ []) rs (plan ++ p ∷ [])) (sym c.in_ok-push_bound.ensures) shown))
     c.push_entry.ensures

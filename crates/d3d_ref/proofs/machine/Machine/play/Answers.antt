@@ -65,3 +65,10 @@ execute-requires-clause-limits c =
     let log = c.args.log.now in
     let within : c.args.n ≤ length log.frames + 1 = omega (arith, numbered log.frames c.args.n (frame_view c.in-Some.item) (sym c.in-Some.ensures.record)) in
     subst (λ (m : Memory). InLimits m) (sym c.requires.stands.memory) (log_in_limits log.bytes log.frames c.args.n c.count-count.ensures.log c.count-count.ensures.small within)
+
+pub execute-requires-clause-shader : goal.execute-requires-clause-shader
+execute-requires-clause-shader c =
+    let f = frame_view c.in-Some.item in
+    let i : Issued = record { context = f.context; call = call_view c.call.result } in
+    let there = call_some c.args.log.now.frames c.args.n f (call_view c.call.result) c.in-Some.ensures.record c.call.ensures in
+    c.requires.shader i there c.in-None-refusal.is

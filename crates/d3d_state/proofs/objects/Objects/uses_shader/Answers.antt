@@ -1,8 +1,6 @@
-use Rattle.std.proofs.Common.{◌≡◌, Bool, true, ◌||◌, refl, sym, ap, ◌∙◌}
+use Rattle.std.proofs.Common.{sym, ap, ◌∙◌}
 use Rattle.std.specs.Prelude.{◌==◌}
-use Rattle.d3d_model.specs.Binding.{holds_shader}
 use Rattle.d3d_model.specs.Stream.{is_listed}
-use Rattle.d3d_model.specs.Verdict.{is_set}
 use Rattle.d3d_state.specs.Meaning.{objects_of}
 use Rattle.d3d_state.proofs.Unused.{shader_used, zero_set}
 use Rattle.d3d_state.proofs.objects.Objects.uses_shader.Goals as goal

@@ -1,5 +1,5 @@
 use Rattle.std.proofs.Common.{rules}
-use Rattle.spirv_emit.proofs.Appending.{makes_ok}
+use Rattle.spirv_emit.proofs.Words.Appending.{makes_ok}
 use Rattle.spirv_emit.proofs.code.Code.atomic.Goals as goal
 
 pub returns-clause-appends : goal.returns-clause-appends

@@ -1,8 +1,8 @@
 use Rattle.std.proofs.Common.{ap, ◌∙◌}
 use Rattle.std.specs.Prelude.{map}
 use Rattle.spirv_emit.specs.Module.{buffer_variable}
-use Rattle.spirv_emit.proofs.Stretches.{moved, finished}
-use Rattle.spirv_emit.proofs.Joining.{from_front, from_done}
+use Rattle.spirv_emit.proofs.Words.ListedCode.{moved, finished}
+use Rattle.spirv_emit.proofs.Words.Nodes.{from_front, from_done}
 use Rattle.spirv_emit.proofs.code.Code.buffers.Goals as goal
 
 pub loop-buffer-preserved : goal.loop-buffer-preserved

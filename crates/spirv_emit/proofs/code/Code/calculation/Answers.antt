@@ -1,5 +1,5 @@
 use Rattle.spirv_emit.specs.Emits.{layout_of}
-use Rattle.spirv_emit.proofs.Parts.{calculation_made}
+use Rattle.spirv_emit.proofs.Words.CalculationsAndAccesses.{calculation_made}
 use Rattle.spirv_emit.proofs.code.Code.calculation.Goals as goal
 
 pub returns-clause-appends : goal.returns-clause-appends

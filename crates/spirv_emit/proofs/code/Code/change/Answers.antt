@@ -1,5 +1,5 @@
 use Rattle.std.proofs.Common.{arith}
-use Rattle.spirv_emit.proofs.Appending.{then_puts, appends_then, appends_to}
+use Rattle.spirv_emit.proofs.Words.Appending.{then_puts, appends_then, appends_to}
 use Rattle.spirv_emit.proofs.code.Code.change.Goals as goal
 
 pub returns : goal.returns

@@ -1,5 +1,5 @@
 use Rattle.std.proofs.Common.{arith}
-use Rattle.spirv_emit.proofs.Appending.{appends_then, appends_to}
+use Rattle.spirv_emit.proofs.Words.Appending.{appends_then, appends_to}
 use Rattle.spirv_emit.proofs.code.Code.component.Goals as goal
 
 pub returns-clause-appends : goal.returns-clause-appends

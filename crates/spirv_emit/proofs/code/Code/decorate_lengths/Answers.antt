@@ -1,8 +1,8 @@
 use Rattle.std.proofs.Common.{ap, ◌∙◌}
 use Rattle.std.specs.Prelude.{map}
 use Rattle.spirv_emit.specs.Module.{offset_of}
-use Rattle.spirv_emit.proofs.Stretches.{moved, finished}
-use Rattle.spirv_emit.proofs.Joining.{from_front, from_done}
+use Rattle.spirv_emit.proofs.Words.ListedCode.{moved, finished}
+use Rattle.spirv_emit.proofs.Words.Nodes.{from_front, from_done}
 use Rattle.spirv_emit.proofs.code.Code.decorate_lengths.Goals as goal
 
 pub loop-binding-preserved : goal.loop-binding-preserved

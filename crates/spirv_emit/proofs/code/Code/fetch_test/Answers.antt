@@ -2,7 +2,7 @@ use Rattle.std.proofs.Common.{◌++◌, ap, sym, subst, ◌∙◌, arith}
 use Rattle.spirv_emit.specs.Emits.{layout_of, PiecesAreSmall}
 use Rattle.spirv_emit.specs.Code.{pieces_end}
 use Rattle.spirv_emit.specs.Lower.{test_pieces}
-use Rattle.spirv_emit.proofs.Flowing.{pieces_of}
+use Rattle.spirv_emit.proofs.Words.LeavesAndLoops.{pieces_of}
 use Rattle.spirv_emit.proofs.code.Code.fetch_test.Goals as goal
 
 pub returns : goal.returns

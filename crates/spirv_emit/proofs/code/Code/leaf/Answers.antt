@@ -1,5 +1,5 @@
 use Rattle.std.proofs.Common.{arith, refl}
-use Rattle.spirv_emit.proofs.Appending.{appends_none, appends_to}
+use Rattle.spirv_emit.proofs.Words.Appending.{appends_none, appends_to}
 use Rattle.spirv_emit.proofs.code.Code.leaf.Goals as goal
 
 pub returns-in-Number-clause-appends : goal.returns-in-Number-clause-appends

@@ -1,6 +1,6 @@
 use Rattle.spirv_emit.specs.Emits.{layout_of, out_op}
 use Rattle.spirv_emit.specs.Lower.{test_calculation}
-use Rattle.spirv_emit.proofs.Flowing.{out_made_of, left_made}
+use Rattle.spirv_emit.proofs.Words.LeavesAndLoops.{out_made_of, left_made}
 use Rattle.spirv_emit.proofs.code.Code.leave_by.Goals as goal
 
 pub returns : goal.returns

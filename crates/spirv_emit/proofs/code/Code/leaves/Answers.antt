@@ -1,8 +1,8 @@
 use Rattle.std.proofs.Common.{rules, ◌≡◌, length}
 use Rattle.spirv_emit.specs.declared.piece.Leaf.TheVariants.{Number}
 use Rattle.spirv_emit.specs.Emits.{layout_of}
-use Rattle.spirv_emit.proofs.Stretches.{five_leaves}
-use Rattle.spirv_emit.proofs.Parts.{leaves_five}
+use Rattle.spirv_emit.proofs.Words.ListedCode.{five_leaves}
+use Rattle.spirv_emit.proofs.Words.CalculationsAndAccesses.{leaves_five}
 use Rattle.spirv_emit.proofs.code.Code.leaves.Goals as goal
 
 pub returns-clause-appends : goal.returns-clause-appends

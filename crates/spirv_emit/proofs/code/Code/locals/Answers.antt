@@ -1,7 +1,7 @@
 use Rattle.std.proofs.Common.{◌+◌, ap, ◌∙◌, arith}
 use Rattle.spirv_emit.specs.Emits.{layout_of}
-use Rattle.spirv_emit.proofs.Stretches.{moved, finished}
-use Rattle.spirv_emit.proofs.Wholly.{variables_front, variables_done}
+use Rattle.spirv_emit.proofs.Words.ListedCode.{moved, finished}
+use Rattle.spirv_emit.proofs.Words.ModuleParts.{variables_front, variables_done}
 use Rattle.spirv_emit.proofs.code.Code.locals.Goals as goal
 
 pub loop-i-preserved : goal.loop-i-preserved

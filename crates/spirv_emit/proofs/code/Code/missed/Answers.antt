@@ -1,4 +1,4 @@
-use Rattle.spirv_emit.proofs.Appending.{puts_none}
+use Rattle.spirv_emit.proofs.Words.Appending.{puts_none}
 use Rattle.spirv_emit.proofs.code.Code.missed.Goals as goal
 
 pub returns-in-Write : goal.returns-in-Write

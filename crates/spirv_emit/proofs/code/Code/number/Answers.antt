@@ -1,6 +1,6 @@
-use Rattle.spirv_words.specs.Op as op
+use Rattle.spirv_model.specs.Op as op
 use Rattle.spirv_emit.specs.Layout as id
-use Rattle.spirv_emit.proofs.Wholly.{fresh_made}
+use Rattle.spirv_emit.proofs.Words.ModuleParts.{fresh_made}
 use Rattle.spirv_emit.proofs.code.Code.number.Goals as goal
 
 pub returns : goal.returns

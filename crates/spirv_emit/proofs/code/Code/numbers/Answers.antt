@@ -1,8 +1,8 @@
 use Rattle.std.proofs.Common.{◌+◌, ap, ◌∙◌, arith}
 use Rattle.std.proofs.lemmas.List.{drop_all}
 use Rattle.spirv_emit.specs.Module.{constants}
-use Rattle.spirv_emit.proofs.Stretches.{moved, finished}
-use Rattle.spirv_emit.proofs.Wholly.{constants_front}
+use Rattle.spirv_emit.proofs.Words.ListedCode.{moved, finished}
+use Rattle.spirv_emit.proofs.Words.ModuleParts.{constants_front}
 use Rattle.spirv_emit.proofs.code.Code.numbers.Goals as goal
 
 pub loop-number-preserved : goal.loop-number-preserved

@@ -1,7 +1,7 @@
 use Rattle.spirv_emit.specs.Emits.{layout_of}
-use Rattle.spirv_words.specs.Op as op
+use Rattle.spirv_model.specs.Op as op
 use Rattle.spirv_emit.specs.Code.{turns_are_out}
-use Rattle.spirv_emit.proofs.Flowing.{out_made, front_made}
+use Rattle.spirv_emit.proofs.Words.LeavesAndLoops.{out_made, front_made}
 use Rattle.spirv_emit.proofs.code.Code.open_loop.Goals as goal
 
 pub returns-clause-appends : goal.returns-clause-appends

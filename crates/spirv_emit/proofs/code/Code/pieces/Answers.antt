@@ -6,9 +6,9 @@ use Rattle.spirv_emit.specs.declared.formula.Formula.TheVariants.{Same}
 use Rattle.spirv_emit.specs.declared.piece.Piece.{Piece}
 use Rattle.spirv_emit.specs.declared.piece.Piece.TheVariants.{Assign}
 use Rattle.spirv_emit.specs.Code.{piece_end}
-use Rattle.spirv_emit.proofs.Shape as shape
-use Rattle.spirv_emit.proofs.Stretches.{moved, finished, pieces_front, pieces_end_front}
-use Rattle.spirv_emit.proofs.Parts.{pieces_small_next}
+use Rattle.spirv_emit.proofs.Words.LabelRanges as shape
+use Rattle.spirv_emit.proofs.Words.ListedCode.{moved, finished, pieces_front, pieces_end_front}
+use Rattle.spirv_emit.proofs.Words.CalculationsAndAccesses.{pieces_small_next}
 use Rattle.spirv_emit.proofs.code.Code.pieces.Goals as goal
 
 pub loop-piece-preserved : goal.loop-piece-preserved

@@ -1,5 +1,5 @@
 use Rattle.spirv_emit.specs.Emits.{layout_of}
-use Rattle.spirv_emit.proofs.Parts.{reach_made}
+use Rattle.spirv_emit.proofs.Words.CalculationsAndAccesses.{reach_made}
 use Rattle.spirv_emit.proofs.code.Code.reach.Goals as goal
 
 pub returns : goal.returns

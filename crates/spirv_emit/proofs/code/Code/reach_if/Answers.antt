@@ -1,9 +1,9 @@
 use Rattle.std.proofs.Common.{◌≡◌, ◌+◌, ◌++◌, [], ◌∷◌, ap, refl, ◌∙◌, arith}
 use Rattle.spirv_emit.specs.Emits.{layout_of}
-use Rattle.spirv_words.specs.Op as op
+use Rattle.spirv_model.specs.Op as op
 use Rattle.spirv_emit.specs.Code.{calculation_size, reach_ops, missed_ops}
-use Rattle.spirv_emit.proofs.Appending.{appends_to}
-use Rattle.spirv_emit.proofs.Parts.{choice_made}
+use Rattle.spirv_emit.proofs.Words.Appending.{appends_to}
+use Rattle.spirv_emit.proofs.Words.CalculationsAndAccesses.{choice_made}
 use Rattle.spirv_emit.proofs.code.Code.reach_if.Goals as goal
 
 pub returns : goal.returns

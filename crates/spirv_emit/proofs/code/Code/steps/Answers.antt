@@ -2,11 +2,11 @@ use Rattle.std.proofs.Common.{◌+◌, ap, ◌∙◌, arith}
 use Rattle.std.proofs.lemmas.List.{drop_all}
 use Rattle.spirv_emit.specs.Emits.{layout_of}
 use Rattle.spirv_emit.specs.Code.{steps_ops}
-use Rattle.spirv_words.specs.declared.code.UnaryCode.TheVariants.{Negate}
+use Rattle.spirv_model.specs.declared.code.UnaryCode.TheVariants.{Negate}
 use Rattle.spirv_emit.specs.declared.formula.Taken.TheVariants.{Leaf}
 use Rattle.spirv_emit.specs.declared.formula.Step.TheVariants.{One}
-use Rattle.spirv_emit.proofs.Stretches.{moved, finished, steps_front}
-use Rattle.spirv_emit.proofs.Parts.{small_next}
+use Rattle.spirv_emit.proofs.Words.ListedCode.{moved, finished, steps_front}
+use Rattle.spirv_emit.proofs.Words.CalculationsAndAccesses.{small_next}
 use Rattle.spirv_emit.proofs.code.Code.steps.Goals as goal
 
 pub loop-step-preserved : goal.loop-step-preserved

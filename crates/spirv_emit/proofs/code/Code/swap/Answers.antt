@@ -1,5 +1,5 @@
 use Rattle.spirv_emit.specs.Emits.{layout_of}
-use Rattle.spirv_emit.proofs.Parts.{swap_made}
+use Rattle.spirv_emit.proofs.Words.CalculationsAndAccesses.{swap_made}
 use Rattle.spirv_emit.proofs.code.Code.swap.Goals as goal
 
 pub returns : goal.returns

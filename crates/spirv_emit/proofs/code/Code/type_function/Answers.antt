@@ -1,5 +1,5 @@
 use Rattle.std.proofs.Common.{rules}
-use Rattle.spirv_emit.proofs.Appending.{puts_ok}
+use Rattle.spirv_emit.proofs.Words.Appending.{puts_ok}
 use Rattle.spirv_emit.proofs.code.Code.type_function.Goals as goal
 
 pub returns : goal.returns

@@ -1,5 +1,5 @@
 use Rattle.spirv_emit.specs.Emits.{layout_of}
-use Rattle.spirv_emit.proofs.Wholly.{variables_made}
+use Rattle.spirv_emit.proofs.Words.ModuleParts.{variables_made}
 use Rattle.spirv_emit.proofs.code.Code.variables.Goals as goal
 
 pub returns : goal.returns

@@ -1,4 +1,4 @@
-use Rattle.spirv_emit.proofs.Appending.{puts_then}
+use Rattle.spirv_emit.proofs.Words.Appending.{puts_then}
 use Rattle.spirv_emit.proofs.code.Code.word_types.Goals as goal
 
 pub returns : goal.returns

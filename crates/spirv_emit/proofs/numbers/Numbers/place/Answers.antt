@@ -1,6 +1,6 @@
 use Rattle.std.proofs.Common.{sym, ◌∙◌, ap, arith}
 use Rattle.spirv_emit.specs.Numbers.{place}
-use Rattle.spirv_emit.proofs.Named.{found_place, missing_place, place_most}
+use Rattle.spirv_emit.proofs.Words.NumberPlaces.{found_place, missing_place, place_most}
 use Rattle.spirv_emit.proofs.numbers.Numbers.place.Goals as goal
 
 pub returns-in-Some : goal.returns-in-Some

@@ -1,7 +1,7 @@
 use Rattle.std.proofs.Common.{sym, ap, ◌∙◌}
 use Rattle.std.specs.Prelude.{option_map}
-use Rattle.spirv_words.specs.Meaning.Values.{At, ToVariable}
-use Rattle.spirv_words.specs.Meaning.Memory.{with_result}
+use Rattle.spirv_model.specs.Meaning.Values.{At, ToVariable}
+use Rattle.spirv_model.specs.Meaning.Memory.{with_result}
 use Rattle.spirv_run.specs.Held.{shown, memory_of}
 use Rattle.spirv_run.specs.Steps.{Reaches, variable_in}
 use Rattle.spirv_run.proofs.frame.Frame.declare.Goals as goal

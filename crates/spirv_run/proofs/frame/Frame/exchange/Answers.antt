@@ -1,7 +1,7 @@
 use Rattle.std.proofs.Common.{Option, ℕ, sym, ap, ◌∙◌}
 use Rattle.std.specs.Prelude.{slice_index}
-use Rattle.spirv_words.specs.Meaning.Bindings.{words_at}
-use Rattle.spirv_words.specs.Meaning.Memory.{exchanged}
+use Rattle.spirv_model.specs.Meaning.Bindings.{words_at}
+use Rattle.spirv_model.specs.Meaning.Memory.{exchanged}
 use Rattle.spirv_run.specs.Held.{memory_of}
 use Rattle.spirv_run.specs.Steps.{left_in}
 use Rattle.spirv_run.proofs.Exchanging.{exchange_done}

@@ -1,6 +1,6 @@
 use Rattle.std.proofs.Common.{Option, ap, ◌∙◌}
-use Rattle.spirv_words.specs.Meaning.Values.{Value}
-use Rattle.spirv_words.specs.Meaning.Memory.{with_existing}
+use Rattle.spirv_model.specs.Meaning.Values.{Value}
+use Rattle.spirv_model.specs.Meaning.Memory.{with_existing}
 use Rattle.spirv_run.specs.Held.{shown, memory_of}
 use Rattle.spirv_run.specs.Steps.{Reaches, left_in}
 use Rattle.spirv_run.proofs.frame.Frame.set_existing.Goals as goal

@@ -1,5 +1,5 @@
 use Rattle.std.proofs.Common.{◌≡◌, ◌+◌, ◌-◌, ◌<◌, length, map, drop, sym, subst, arith}
-use Rattle.spirv_words.specs.View.{shown}
+use Rattle.spirv_model.specs.View.{shown}
 use Rattle.spirv_run.specs.Decoding.{Knows}
 use Rattle.spirv_run.proofs.Decoded.{mapped_at}
 use Rattle.spirv_run.proofs.names.Names.of.Goals as goal

@@ -1,5 +1,5 @@
 use Rattle.std.proofs.Common.{◌≤◌, length, drop, map}
-use Rattle.spirv_words.specs.View.{shown}
+use Rattle.spirv_model.specs.View.{shown}
 use Rattle.spirv_run.specs.Decoding.{Knows}
 use Rattle.spirv_run.proofs.names.Names.of.Given as goal
 

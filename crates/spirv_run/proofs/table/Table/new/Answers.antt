@@ -1,7 +1,7 @@
 use Rattle.std.proofs.Common.{◌≡◌, ◌≤◌, map, length, ap, ◌∙◌, subst}
-use Rattle.spirv_words.specs.FirstBad.{reading}
-use Rattle.spirv_words.specs.View.{shown}
-use Rattle.spirv_words.specs.Meaning.ModuleDispatch.{local_size}
+use Rattle.spirv_model.specs.FirstBad.{reading}
+use Rattle.spirv_model.specs.View.{shown}
+use Rattle.spirv_model.specs.Meaning.ModuleDispatch.{local_size}
 use Rattle.spirv_run.specs.Steps.{end_of_all}
 use Rattle.spirv_run.specs.Decoding.{ops_of, steps_from, steps_of}
 use Rattle.spirv_run.specs.Tables.{ids_of}

@@ -1,9 +1,9 @@
 use Rattle.std.proofs.Common.{◌≡◌, List, get_or, ap, ◌∙◌, arith}
 use Rattle.std.specs.Prelude.{nat_lt}
-use Rattle.spirv_words.specs.Op.{Op}
-use Rattle.spirv_words.specs.History.{maker}
-use Rattle.spirv_words.specs.Values.{block_of, member_count}
-use Rattle.spirv_words.specs.Operands.{constant}
+use Rattle.spirv_model.specs.Op.{Op}
+use Rattle.spirv_model.specs.History.{maker}
+use Rattle.spirv_model.specs.Values.{block_of, member_count}
+use Rattle.spirv_model.specs.Operands.{constant}
 use Rattle.spirv_words.specs.Known.{history}
 use Rattle.spirv_words.specs.Rules.{rule_of, operand_fault}
 use Rattle.spirv_words.proofs.Chains.{chain_faults}

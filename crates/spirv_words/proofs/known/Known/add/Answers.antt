@@ -1,9 +1,9 @@
 use Rattle.std.proofs.Common.{◌≡◌, List, ◌∷◌, subst, sym, ap, ◌∙◌}
-use Rattle.spirv_words.specs.Op.{Op}
+use Rattle.spirv_model.specs.Op.{Op}
 use Rattle.spirv_words.specs.Kept.{IsPlace, so_far}
-use Rattle.spirv_words.specs.View.{shown}
-use Rattle.spirv_words.specs.History.{maker, is_branched_to, is_entry}
-use Rattle.spirv_words.specs.Types.{is_declared}
+use Rattle.spirv_model.specs.View.{shown}
+use Rattle.spirv_model.specs.History.{maker, is_branched_to, is_entry}
+use Rattle.spirv_model.specs.Types.{is_declared}
 use Rattle.spirv_words.proofs.Lists.{so_far_pushed}
 use Rattle.spirv_words.proofs.known.Known.add.Goals as goal
 

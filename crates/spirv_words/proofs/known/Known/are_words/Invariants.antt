@@ -1,6 +1,6 @@
 use Rattle.std.proofs.Common.{◌≡◌, length}
 use Rattle.spirv_words.specs.Known.{history}
-use Rattle.spirv_words.specs.Types.{all_words}
+use Rattle.spirv_model.specs.Types.{all_words}
 use Rattle.spirv_words.proofs.known.Known.are_words.Given as goal
 
 abbrev pub invariant-ids : goal.invariant-ids

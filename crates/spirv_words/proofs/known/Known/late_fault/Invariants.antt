@@ -1,7 +1,7 @@
 use Rattle.std.proofs.Common.{◌≡◌, ◌+◌, length, map}
-use Rattle.spirv_words.specs.View.{shown}
+use Rattle.spirv_model.specs.View.{shown}
 use Rattle.spirv_words.specs.Known.{history}
-use Rattle.spirv_words.specs.FirstBad.{late_fault, total_words}
+use Rattle.spirv_model.specs.FirstBad.{late_fault, total_words}
 use Rattle.spirv_words.proofs.known.Known.late_fault.Given as goal
 
 abbrev pub invariant-ops : goal.invariant-ops

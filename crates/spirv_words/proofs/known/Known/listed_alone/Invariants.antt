@@ -1,5 +1,5 @@
 use Rattle.std.proofs.Common.{◌≡◌, ◌+◌, length, map}
-use Rattle.spirv_words.specs.FirstBad.{first_fault}
+use Rattle.spirv_model.specs.FirstBad.{first_fault}
 use Rattle.spirv_words.specs.Rules.{rule_of}
 use Rattle.spirv_words.proofs.known.Known.listed_alone.Given as goal
 

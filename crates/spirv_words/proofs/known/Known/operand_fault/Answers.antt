@@ -1,6 +1,6 @@
 use Rattle.std.proofs.Common.{sym, ap}
-use Rattle.spirv_words.specs.declared.op.Op.{Op as View}
-use Rattle.spirv_words.specs.View.{shown}
+use Rattle.spirv_model.specs.declared.op.Op.{Op as View}
+use Rattle.spirv_model.specs.View.{shown}
 use Rattle.spirv_words.specs.Rules.{operand_fault}
 use Rattle.spirv_words.proofs.known.Known.operand_fault.Goals as goal
 

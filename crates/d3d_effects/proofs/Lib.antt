@@ -1,0 +1,5 @@
+mod Passes
+mod NoEffect
+mod BoundRanges
+mod Slots
+mod Kept

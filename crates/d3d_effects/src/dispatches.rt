@@ -1,0 +1,98 @@
+ghost use Rattle.std.specs.Prelude.{◌≡◌, ◌<◌, ◌++◌, None, OnOk, map, slice_index_or};
+ghost use Rattle.std.specs.List.{filter_map};
+ghost use Rattle.std.specs.Option.{option_map};
+ghost use Rattle.d3d_model.specs.Binding.{bound_range, constant_ranges};
+ghost use Rattle.d3d_model.specs.D3dState.{bindings_of};
+ghost use Rattle.d3d_model.specs.Stream.{cut, dispatch_ranges};
+ghost use Rattle.d3d_state.specs.Meaning.{objects_of};
+ghost use Rattle.dx_types.specs.declared.limits.TheConstants.{CONSTANT_SLOTS, SRV_SLOTS, UAV_SLOTS};
+
+use crate::bound::push_some;
+use d3d_state::Objects;
+use d3d_views::view_range;
+use dx_types::ResRange;
+use dx_types::limits::{CONSTANT_SLOTS, SRV_SLOTS, UAV_SLOTS};
+use std::alloc::AllocError;
+
+/// What a constant slot, from 0 to 13, binds: no more than its buffer has.
+fn constant_bound(objects: &Objects, slot: usize) -> Option<ResRange>
+    requires { slot < CONSTANT_SLOTS }
+    ensures { let o = objects_of objects.now in
+        result ≡ option_map (cut o) (slice_index_or (bindings_of o 0).constants slot None) }
+{
+    let range = objects.bindings().constant(slot)?;
+    let size = match objects.buffer(range.res) {
+        Some(shape) => shape.size,
+        None => 0,
+    };
+    Some(ResRange {
+        to: range.to.min(size),
+        ..range
+    })
+}
+
+/// What a shader resource slot, from 0 to 15, binds.
+fn srv_bound(objects: &Objects, slot: usize) -> Option<ResRange>
+    requires { slot < SRV_SLOTS }
+    ensures { result ≡ bound_range (slice_index_or (bindings_of (objects_of objects.now) 0).srvs slot None) }
+{
+    let bound = objects.bindings().srv(slot)?;
+    Some(view_range(&bound.shape))
+}
+
+/// What an unordered access slot, from 0 to 7, binds.
+fn uav_bound(objects: &Objects, slot: usize) -> Option<ResRange>
+    requires { slot < UAV_SLOTS }
+    ensures { result ≡ bound_range (slice_index_or (bindings_of (objects_of objects.now) 0).uavs slot None) }
+{
+    let bound = objects.bindings().uav(slot)?;
+    Some(view_range(&bound.shape))
+}
+
+/// Appends what the constant slots bind, by rising slot.
+fn push_constants(ranges: &mut Vec<ResRange>, objects: &Objects) -> Result<(), AllocError>
+    ensures { let o = objects_of objects.now in
+        OnOk result (ranges.new.items ≡ ranges.old.items ++ map (cut o) (constant_ranges (bindings_of o 0))) }
+{
+    objects.bindings().has_all_slots();
+    'slots: for slot in 0..CONSTANT_SLOTS {
+        push_some(ranges, constant_bound(objects, slot))?;
+    }
+    Ok(())
+}
+
+/// Appends what the shader resource slots bind, by rising slot.
+fn push_srvs(ranges: &mut Vec<ResRange>, objects: &Objects) -> Result<(), AllocError>
+    ensures { OnOk result (ranges.new.items
+        ≡ ranges.old.items ++ filter_map bound_range (bindings_of (objects_of objects.now) 0).srvs) }
+{
+    objects.bindings().has_all_slots();
+    'slots: for slot in 0..SRV_SLOTS {
+        push_some(ranges, srv_bound(objects, slot))?;
+    }
+    Ok(())
+}
+
+/// Appends what the unordered access slots bind, by rising slot.
+fn push_uavs(ranges: &mut Vec<ResRange>, objects: &Objects) -> Result<(), AllocError>
+    ensures { OnOk result (ranges.new.items
+        ≡ ranges.old.items ++ filter_map bound_range (bindings_of (objects_of objects.now) 0).uavs) }
+{
+    objects.bindings().has_all_slots();
+    'slots: for slot in 0..UAV_SLOTS {
+        push_some(ranges, uav_bound(objects, slot))?;
+    }
+    Ok(())
+}
+
+/// Appends the ranges that a dispatch binds: of the constants, the shader resources and the unordered access views, and then
+/// the predicate's word.
+pub(crate) fn push_dispatch(ranges: &mut Vec<ResRange>, objects: &Objects) -> Result<(), AllocError>
+    ensures { let o = objects_of objects.now in
+        OnOk result (ranges.new.items ≡ ranges.old.items ++ dispatch_ranges o (bindings_of o 0)) }
+{
+    push_constants(ranges, objects)?;
+    push_srvs(ranges, objects)?;
+    push_uavs(ranges, objects)?;
+    push_some(ranges, objects.bindings().predicate_word())
+}

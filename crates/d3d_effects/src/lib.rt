@@ -1,0 +1,11 @@
+//! What an accepted call changes, which bytes it binds, and what is kept of it for the calls behind it.
+#![tactic(auto)]
+
+mod bound;
+mod dispatches;
+mod effect;
+mod keep;
+
+pub use bound::push_bound;
+pub use effect::apply;
+pub use keep::keep_call;

@@ -1,0 +1,24 @@
+-- What pieces do: those of each instruction and test do what the instruction or test does.
+pub mod FormulaValues
+pub mod DestinationFormulas
+pub mod Assignments
+pub mod BitFields
+pub mod FieldInserts
+pub mod SourceLeaves
+pub mod ComputingInstructions
+pub mod ConstantFetches
+pub mod NamesInRange
+pub mod Tests
+pub mod ViewFormulas
+pub mod ViewAccess
+pub mod LoadedWords
+pub mod LoadInstructions
+pub mod PiecesDoInstructions
+pub mod ViewWords
+pub mod StoredWords
+pub mod Atomics
+pub mod MemoryInstructions
+pub mod EachInstruction
+pub mod NamedNumbers
+pub mod GoodBodies
+pub mod KeptTurnsAndLengths

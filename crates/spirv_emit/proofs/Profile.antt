@@ -1,0 +1,20 @@
+-- That the profile takes every module.
+pub mod InstructionsPass
+pub mod StraightCode
+pub mod CodePlaces
+pub mod TypedOperands
+pub mod LabelsMade
+pub mod GreaterBounds
+pub mod Scope
+pub mod StepTypes
+pub mod OperandRules
+pub mod Leaves
+pub mod CalculationsPass
+pub mod ChoicesPass
+pub mod BlocksPass
+pub mod BlockLabels
+pub mod NamedTypes
+pub mod GoodNames
+pub mod PreamblePasses
+pub mod FunctionOpens
+pub mod ModulePasses

@@ -1,0 +1,7 @@
+-- How large a module is.
+pub mod FewNumbers
+pub mod FewPieces
+pub mod FewIds
+pub mod FewWords
+pub mod Bounds
+pub mod SmallPieces

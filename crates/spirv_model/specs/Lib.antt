@@ -1,0 +1,14 @@
+pub mod StorageClass
+pub mod Decoration
+pub mod Op
+pub mod Table
+pub mod Words
+pub mod View
+pub mod History
+pub mod Types
+pub mod Values
+pub mod Operands
+pub mod Sections
+pub mod Blocks
+pub mod FirstBad
+pub mod Meaning

@@ -1,5 +1,0 @@
-use Rattle.vk_trace.proofs.Cuts.{no_cut}
-use Rattle.vk_trace.proofs.read.next_line.Goals as goal
-
-pub returns-in-None : goal.returns-in-None
-returns-in-None c = no_cut 10 c.args.text.now _ _ c.cut.ensures c.in-None.ensures
