@@ -9,7 +9,7 @@ use Rattle.call_log.specs.Grammar.{Frame, calls_of}
 use Rattle.d3d_model.specs.InOrder.{State, before_call, call_at, verdict_in}
 use Rattle.d3d_model.specs.ReplyText.{none_pending, answer, answer_or_still, reply_unless, reply_to, reply_at}
 use Rattle.d3d_model.specs.D3dState.{Shader}
-use Rattle.d3d_model.proofs.Maps.{get-empty}
+use Rattle.base_lemmas.proofs.Maps.{get-empty}
 use Rattle.d3d_plan.specs.Planned.{Planned}
 use Rattle.d3d_ref.specs.Stands.{Judged, IsCreated}
 use Rattle.d3d_ref.proofs.Judgements.{created, judged, shader_of, verdict_of}

@@ -1,7 +1,7 @@
 -- The next act of App: an answer, an item, a hand-over, the end.
 use Rattle.std.specs.Prelude.{◌≡◌, ℕ, suc, ◌-◌, ◌≤◌, Bool, true, false, nat_le, List, [], ◌∷◌, ◌++◌, map, Option, Some, None, ◌⊎◌}
 use Rattle.dx_types.specs.declared.range.Range.{Range}
-use Rattle.vk_types.specs.Lists.{numbers_from}
+use Rattle.base_lemmas.specs.Lists.{numbers_from}
 use Rattle.vk_types.specs.Effects.{Act, Host_write, Device, Host_read}
 use Rattle.vk_types.specs.BarrierCauses.{least_writer, host_barrier}
 use Rattle.vk_types.specs.Entries.{Entry}

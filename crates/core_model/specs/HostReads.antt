@@ -3,7 +3,7 @@ use Rattle.std.specs.Prelude.{◌≡◌, ℕ, ◌-◌, List, ◌∷◌, ◌++◌
 use Rattle.dx_types.specs.declared.range.Range.{Range}
 use Rattle.vk_types.specs.declared.op.VkOp.{VkOp}
 use Rattle.vk_types.specs.declared.op.VkOp.TheVariants as op
-use Rattle.vk_types.specs.Lists.{numbers_from}
+use Rattle.base_lemmas.specs.Lists.{numbers_from}
 use Rattle.vk_types.specs.Memory.{range}
 use Rattle.vk_types.specs.Effects.{Meaning}
 use Rattle.vk_types.specs.Allowed.{IsAllowed, outcome}

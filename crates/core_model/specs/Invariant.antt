@@ -3,7 +3,7 @@ use Rattle.std.specs.Prelude.{◌≡◌, ℕ, suc, ◌+◌, ◌-◌, ◌<◌, �
 use Rattle.std.specs.List.{list_any, AllByRecursion}
 use Rattle.vk_types.specs.declared.command.Command as c
 use Rattle.vk_types.specs.declared.touch.Touch.{Touch}
-use Rattle.vk_types.specs.Lists.{Pairwise, IsReordering, Sublist, numbers_from}
+use Rattle.base_lemmas.specs.Lists.{Pairwise, IsReordering, Sublist, numbers_from}
 use Rattle.vk_types.specs.Memory.{zeros}
 use Rattle.vk_types.specs.Hazards.{touches, is_touched, lists_conflict}
 use Rattle.vk_types.specs.Effects.{Meaning, act_touches, is_host}

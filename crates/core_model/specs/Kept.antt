@@ -2,7 +2,7 @@
 -- staging buffers, and what is bound.
 use Rattle.std.specs.Prelude.{◌≡◌, ℕ, suc, ◌+◌, ◌*◌, ◌<◌, ◌≤◌, Bool, true, false, List, [], ◌∷◌, ◌++◌, Option, Some, None, slice_get}
 use Rattle.std.specs.List.{list_any, AllByRecursion}
-use Rattle.vk_types.specs.Lists.{Pairwise}
+use Rattle.base_lemmas.specs.Lists.{Pairwise}
 use Rattle.vk_types.specs.Effects.{Meaning}
 use Rattle.vk_types.specs.Entries.{Entry}
 use Rattle.dx_types.specs.declared.range.Range.{Range}

@@ -6,7 +6,7 @@ use Rattle.dx_types.specs.declared.limits.TheConstants.{CLASSES, MAX_BUFFER_SIZE
 use Rattle.vk_types.specs.declared.access.Stage.TheVariants as stage
 use Rattle.vk_types.specs.declared.touch.Touch.{Touch}
 use Rattle.vk_types.specs.declared.message.QueryMark.{QueryMark}
-use Rattle.vk_types.specs.Lists.{Pairwise}
+use Rattle.base_lemmas.specs.Lists.{Pairwise}
 use Rattle.vk_types.specs.Memory.{range}
 use Rattle.vk_types.specs.Hazards.{touch, write_access, work_touches, cond_touches, is_touched}
 use Rattle.vk_types.specs.Effects.{Meaning}

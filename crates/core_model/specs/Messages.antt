@@ -11,7 +11,7 @@ use Rattle.vk_types.specs.declared.message.Batch.{Batch}
 use Rattle.vk_types.specs.declared.message.Completion.{Completion}
 use Rattle.vk_types.specs.declared.message.Post.{Post}
 use Rattle.vk_types.specs.declared.op.VkOp.{VkOp}
-use Rattle.vk_types.specs.Lists.{numbers_from}
+use Rattle.base_lemmas.specs.Lists.{numbers_from}
 use Rattle.core_model.specs.Script.{Create, Discard, No_overwrite, Stage, Command, Destroy, Create_shader, Mark_query, Set_state, Turn, Refused, Passed, Flushed, Asked, Item, Script}
 use Rattle.core_model.specs.Chunking.{last_call}
 use Rattle.core_model.specs.CoreState.{Page, Segment, Message, marks, taken_blocks, has_class, class_length}

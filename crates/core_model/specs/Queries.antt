@@ -3,7 +3,7 @@
 use Rattle.std.specs.Prelude.{◌≡◌, ℕ, suc, ◌+◌, ◌<◌, ◌≤◌, Bool, cond, not, ◌&&◌, ◌==◌, nat_le, List, [], ◌∷◌, ◌++◌, map, Some, None}
 use Rattle.std.specs.List.{AllByRecursion}
 use Rattle.vk_types.specs.declared.message.QueryMark.{QueryMark}
-use Rattle.vk_types.specs.Lists.{numbers_from}
+use Rattle.base_lemmas.specs.Lists.{numbers_from}
 use Rattle.vk_types.specs.Memory.{number_at}
 use Rattle.vk_types.specs.Effects.{Meaning, Act, Host_write, Device, Host_read, work_count, is_skipped}
 use Rattle.vk_types.specs.Entries.{Entry}

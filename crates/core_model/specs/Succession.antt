@@ -14,7 +14,7 @@ use Rattle.vk_types.specs.declared.message.Batch.{Batch}
 use Rattle.vk_types.specs.declared.message.Submission.{Submission}
 use Rattle.vk_types.specs.declared.message.Completion.{Completion}
 use Rattle.vk_types.specs.declared.message.Post.{Post}
-use Rattle.vk_types.specs.Lists.{Pairwise, numbers_from}
+use Rattle.base_lemmas.specs.Lists.{Pairwise, numbers_from}
 use Rattle.vk_types.specs.Memory.{meets}
 use Rattle.vk_types.specs.Effects.{Meaning}
 use Rattle.core_model.specs.Script.{Play, Create, Discard, No_overwrite, Stage, Command, Destroy, Create_shader, Mark_query, Set_state, Turn, Refused, Passed, Flushed, Asked, Item, Script, InOrder, at_start, turn_in_order, updated}

@@ -6,7 +6,7 @@ use Rattle.vk_types.specs.declared.command.Work.{Work}
 use Rattle.vk_types.specs.declared.command.Work.TheVariants as work
 use Rattle.vk_types.specs.declared.op.VkOp.{VkOp}
 use Rattle.vk_types.specs.declared.op.VkOp.TheVariants as op
-use Rattle.vk_types.specs.Lists.{numbers_from}
+use Rattle.base_lemmas.specs.Lists.{numbers_from}
 use Rattle.vk_types.specs.Memory.{range}
 use Rattle.vk_types.specs.Hazards.{write_access, read_write_access}
 use Rattle.vk_types.specs.Effects.{Meaning, Act, Host_write, Device, Host_read}

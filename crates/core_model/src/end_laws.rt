@@ -4,7 +4,7 @@ ghost use Rattle.vk_types.specs.Effects.{Meaning};
 ghost use Rattle.vk_types.specs.Entries.{EntriesKeep, run_entries};
 ghost use Rattle.vk_types.specs.Listing.{acts};
 ghost use Rattle.vk_types.specs.Allowed.{IsAllowed, outcome};
-ghost use Rattle.vk_types.specs.Lists.{IsReordering};
+ghost use Rattle.base_lemmas.specs.Lists.{IsReordering};
 ghost use Rattle.vk_types.specs.Memory.{zeros};
 ghost use Rattle.vk_types.specs.RunListing.{IsRunListing};
 ghost use Rattle.core_model.specs.Script.{Script};

@@ -2,7 +2,7 @@ ghost use Rattle.std.specs.Prelude.{◌≡◌, ℕ, suc, ◌+◌, ◌≤◌, fal
 ghost use Rattle.std.specs.List.{AllByRecursion};
 ghost use Rattle.vk_types.specs.declared.command.Command.{Command};
 ghost use Rattle.vk_types.specs.Effects.{Meaning, Device};
-ghost use Rattle.vk_types.specs.Lists.{Pairwise, numbers_from};
+ghost use Rattle.base_lemmas.specs.Lists.{Pairwise, numbers_from};
 ghost use Rattle.core_model.specs.Script.{Turn, Script, at_start, in_order};
 ghost use Rattle.core_model.specs.Chunking.{chunks};
 ghost use Rattle.core_model.specs.CoreState.{Message, Core, segments, marks};

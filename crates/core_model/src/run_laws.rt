@@ -6,7 +6,7 @@ ghost use Rattle.vk_types.specs.Effects.{Meaning};
 ghost use Rattle.vk_types.specs.Entries.{EntriesCovered, EntriesKeep, run_entries, start_counts};
 ghost use Rattle.vk_types.specs.Listing.{acts};
 ghost use Rattle.vk_types.specs.Allowed.{IsAllowed, outcome};
-ghost use Rattle.vk_types.specs.Lists.{IsReordering};
+ghost use Rattle.base_lemmas.specs.Lists.{IsReordering};
 ghost use Rattle.vk_types.specs.Memory.{zeros};
 ghost use Rattle.vk_types.specs.RunListing.{IsRunListing, SameOrder};
 ghost use Rattle.core_model.specs.Script.{Ask, Script};

@@ -14,11 +14,11 @@ use Rattle.call_log.specs.declared.call.Call.TheVariants as codes
 use Rattle.d3d_model.specs.Binding.{Bindings}
 use Rattle.d3d_model.specs.D3dState.{Objects}
 use Rattle.d3d_model.specs.Effect.{deeds_by, destroyed, objects_after}
-use Rattle.d3d_model.specs.IdMap.{get, insert}
+use Rattle.base_lemmas.specs.IdMap.{get, insert}
 use Rattle.d3d_model.specs.Past.{Past, Deed, Binds, then_done}
 use Rattle.d3d_model.specs.Resource.{Buffers}
 use Rattle.d3d_model.specs.Stream.{binds}
-use Rattle.d3d_model.proofs.Maps.{get_other, get-remove}
+use Rattle.base_lemmas.proofs.Maps.{get_other, get-remove}
 use Rattle.d3d_state.specs.Codes.{Views, Queries}
 use Rattle.d3d_state.specs.Shaders.{Shaders}
 use Rattle.d3d_state.specs.Meaning.{objects_from}

@@ -9,13 +9,13 @@ use Rattle.call_log.specs.Call.{Call}
 use Rattle.d3d_model.specs.Binding.{Bindings}
 use Rattle.d3d_model.specs.Check.{Check, first_failed, is_id}
 use Rattle.d3d_model.specs.D3dState.{Objects, Numbered, Shader, buffer_of}
-use Rattle.d3d_model.specs.IdMap.{get, empty}
+use Rattle.base_lemmas.specs.IdMap.{get, empty}
 use Rattle.d3d_model.specs.Resource.{Buffers, is_one}
 use Rattle.d3d_model.specs.Shader.{decodes}
 use Rattle.d3d_model.specs.Verdict.{buffer_checks, call_checks, is_too_long, is_wrong_at, is_wrong_data, is_wrong_usage, place_of, unused_buffer, unused_view, unused_shader, unused_query}
 use Rattle.d3d_model.specs.View.{view_end}
 use Rattle.d3d_model.proofs.Checked.{all_passed}
-use Rattle.d3d_model.proofs.Maps.{get-empty}
+use Rattle.base_lemmas.proofs.Maps.{get-empty}
 use Rattle.d3d_model.specs.Past.{Past}
 use Rattle.d3d_checks.proofs.Passes.{unended}
 use Rattle.d3d_resources.specs.Creation.{table_checks, shape_of}

@@ -16,7 +16,7 @@ use Rattle.call_log.specs.Grammar.{Frame, IsLog, calls_of, spell, end_record}
 use Rattle.shader_model.specs.Shader.{Program, shader_of}
 use Rattle.shader_model.specs.Invocation.{Slots}
 use Rattle.shader_model.specs.Dispatch.{volume, count_of}
-use Rattle.d3d_model.specs.IdMap.{empty, get, remove}
+use Rattle.base_lemmas.specs.IdMap.{empty, get, remove}
 use Rattle.d3d_model.specs.Check.{Check}
 use Rattle.d3d_model.specs.Resource.{Buffers, usage_from}
 use Rattle.d3d_model.specs.Regions.{filled}
@@ -29,7 +29,7 @@ use Rattle.d3d_model.specs.Verdict.{Place, OnDevice, OnImmediate, OnEach, OnDefe
 use Rattle.d3d_model.specs.Effect.{queries_after, played, played_all, list_start, recorded_on, finished, objects_after}
 use Rattle.d3d_model.specs.Memory.{uavs_shown, slots_seen, write_if, write, copied, discarded, cleared, pattern, is_skipped, unless_skipped, stored, dispatched, counts_at, made, run, run_all, run_at, immediate_run}
 use Rattle.d3d_model.specs.InOrder.{State, unless_refused, verdict_in, after_call, after_calls, before_call}
-use Rattle.d3d_model.proofs.Maps.{get-empty, get-insert, get-remove}
+use Rattle.base_lemmas.proofs.Maps.{get-empty, get-insert, get-remove}
 use Rattle.d3d_model.proofs.Checked.{Passed, all_passed}
 use Rattle.d3d_model.proofs.Sized.{sized, same_buffers_all}
 use Rattle.d3d_memory.specs.Limits.{InLimits}

@@ -7,12 +7,12 @@ use Rattle.std.proofs.lemmas.List.{with_items_is}
 use Rattle.std.specs.Option.{option_map}
 use Rattle.std.specs.Ordering.{nat_cmp, eq_by_cmp}
 use Rattle.d3d_model.specs.Regions.{put, slice}
-use Rattle.d3d_model.proofs.Maps.{get-insert, get_same, get_other, same_map}
+use Rattle.base_lemmas.proofs.Maps.{get-insert, get_same, get_other, same_map}
 use Rattle.std.specs.Map.{lookup}
 use Rattle.std.specs.BTreeMap.{is_at}
-use Rattle.d3d_model.specs.IdMap.{get, insert}
-use Rattle.d3d_model.specs.CodeMap.{map_of}
-use Rattle.d3d_model.proofs.CodeMaps.{get-map_of, map_of-insert}
+use Rattle.base_lemmas.specs.IdMap.{get, insert}
+use Rattle.base_lemmas.specs.CodeMap.{map_of}
+use Rattle.base_lemmas.proofs.CodeMaps.{get-map_of, map_of-insert}
 use Rattle.d3d_model.specs.D3dState.{bytes_if}
 use Rattle.d3d_memory.specs.Contents.{Contents, bytes_at, changed_if, changed, copied}
 

@@ -6,13 +6,13 @@ use Rattle.std.specs.Ordering.{nat_cmp}
 use Rattle.std.specs.Map.{lookup}
 use Rattle.std.specs.BTreeMap.{is_at}
 use Rattle.std.proofs.lemmas.List.{take_all}
-use Rattle.d3d_model.specs.IdMap.{IdMap, get, insert, remove}
-use Rattle.d3d_model.specs.CodeMap.{map_of}
+use Rattle.base_lemmas.specs.IdMap.{IdMap, get, insert, remove}
+use Rattle.base_lemmas.specs.CodeMap.{map_of}
 use Rattle.d3d_model.specs.Regions.{put, filled, slice}
 use Rattle.d3d_model.specs.Binding.{BoundView}
 use Rattle.d3d_model.specs.D3dState.{Memory, bytes_of}
 use Rattle.d3d_model.specs.Memory as model
-use Rattle.d3d_model.proofs.CodeMaps.{get-map_of}
+use Rattle.base_lemmas.proofs.CodeMaps.{get-map_of}
 use Rattle.d3d_model.proofs.Sized.{length-filled}
 use Rattle.d3d_memory.specs.Contents.{Contents, changed_if, changed, write, zeroed, copied}
 use Rattle.d3d_memory.specs.Effects.{with_bytes}

@@ -4,11 +4,11 @@ use Rattle.std.specs.Prelude.{if◌then◌else◌}
 use Rattle.std.proofs.lemmas.Bool.{eq-eqb, ne_eqb}
 use Rattle.call_log.specs.Call as calls
 use Rattle.call_log.specs.Call.{Call}
-use Rattle.d3d_model.specs.IdMap.{IdMap, get, empty}
+use Rattle.base_lemmas.specs.IdMap.{IdMap, get, empty}
 use Rattle.d3d_model.specs.D3dState.{Objects, Memory, Numbered, calls_if}
 use Rattle.d3d_model.specs.Memory.{made, run, run_all, memory_after}
 use Rattle.d3d_model.specs.Effect.{list_start}
-use Rattle.d3d_model.proofs.Maps.{get-empty}
+use Rattle.base_lemmas.proofs.Maps.{get-empty}
 use Rattle.d3d_memory.specs.Commands.{is_made}
 
 pub by_device : (n : ℕ) (o : Objects) (m : Memory) (x : ℕ) (c : Call) → is_made c ≡ true → memory_after n o m x c ≡ made m c

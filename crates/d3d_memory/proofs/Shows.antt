@@ -5,7 +5,7 @@ use Rattle.std.proofs.Math.ListN.{set, get_or-map}
 use Rattle.std.proofs.lemmas.List.{length-take, take_all, drop_all, take_more, drop_more, set_at, append_assoc, append-nil, length-map}
 use Rattle.dx_types.specs.declared.range.ResRange.{ResRange}
 use Rattle.shader_model.specs.declared.tree.Declared.{Declared}
-use Rattle.shader_model.specs.Words as tokens
+use Rattle.base_lemmas.specs.ByteWords as byte_words
 use Rattle.d3d_model.specs.Binding.{Bindings}
 use Rattle.d3d_model.specs.D3dState.{Objects, Memory}
 use Rattle.d3d_model.specs.Memory.{words_shown, shown_from, is_declared, constant_shown, view_shown, constants_shown, srvs_shown, uavs_shown}
@@ -18,21 +18,21 @@ first_word : (a b c d : ℕ) → a + 2 ^ 8 * b + 2 ^ 16 * c + 2 ^ 24 * d ≡ a +
 first_word a b c d = omega arith
 
 -- the whole words of some bytes, and what is left of them
-words_front : (n : ℕ) (bytes : List ℕ) → 4 * n ≤ length bytes → tokens.words_of (take (4 * n) bytes) ≡ words_from n bytes
+words_front : (n : ℕ) (bytes : List ℕ) → 4 * n ≤ length bytes → byte_words.words_of (take (4 * n) bytes) ≡ words_from n bytes
 words_front zero bytes h = refl
 words_front (suc n) (a ∷ b ∷ c ∷ d ∷ rest) h =
     let e : 4 * suc n ≡ suc (suc (suc (suc (4 * n)))) = omega arith in
-    ap (λ (k : ℕ). tokens.words_of (take k (a ∷ b ∷ c ∷ d ∷ rest))) e
-    ∙ ap (λ (w : ℕ). w ∷ tokens.words_of (take (4 * n) rest)) (first_word a b c d)
+    ap (λ (k : ℕ). byte_words.words_of (take k (a ∷ b ∷ c ∷ d ∷ rest))) e
+    ∙ ap (λ (w : ℕ). w ∷ byte_words.words_of (take (4 * n) rest)) (first_word a b c d)
     ∙ ap (λ (ws : List ℕ). (a + 256 * (b + 256 * (c + 256 * (d + 256 * 0)))) ∷ ws) (words_front n rest (omega arith))
 words_front (suc n) [] h = absurd (omega arith)
 words_front (suc n) (a ∷ []) h = absurd (omega arith)
 words_front (suc n) (a ∷ b ∷ []) h = absurd (omega arith)
 words_front (suc n) (a ∷ b ∷ c ∷ []) h = absurd (omega arith)
 
-pub whole_words : (part : List ℕ) (k : ℕ) → k ≡ length part / 4 * 4 → tokens.words_of (take k part) ≡ words_of part
+pub whole_words : (part : List ℕ) (k : ℕ) → k ≡ length part / 4 * 4 → byte_words.words_of (take k part) ≡ words_of part
 unfolding words_of
-whole_words part k e = ap (λ (j : ℕ). tokens.words_of (take j part)) (let f : k ≡ 4 * (length part / 4) = omega (arith, e) in f) ∙ words_front (length part / 4) part (omega arith)
+whole_words part k e = ap (λ (j : ℕ). byte_words.words_of (take j part)) (let f : k ≡ 4 * (length part / 4) = omega (arith, e) in f) ∙ words_front (length part / 4) part (omega arith)
 
 -- a slice up to its length is one up to its end
 pub to_end : (bytes : List ℕ) (from to len : ℕ) → len ≡ to - from → slice bytes from (from + len) ≡ slice bytes from to

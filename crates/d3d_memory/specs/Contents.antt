@@ -2,8 +2,8 @@
 use Rattle.std.specs.Prelude.{ℕ, ◌+◌, ◌≤◌, List, [], length, Option, None, Some}
 use Rattle.std.specs.Coded.{Coded, coded_ℕ, coded_list}
 use Rattle.dx_types.specs.declared.limits.TheConstants.{MAX_BUFFER_SIZE}
-use Rattle.d3d_model.specs.IdMap as ids
-use Rattle.d3d_model.specs.IdMap.{IdMap}
+use Rattle.base_lemmas.specs.IdMap as ids
+use Rattle.base_lemmas.specs.IdMap.{IdMap}
 use Rattle.d3d_model.specs.Regions.{put, filled, slice}
 use Rattle.d3d_model.specs.D3dState.{bytes_if}
 

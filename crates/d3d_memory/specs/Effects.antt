@@ -1,8 +1,8 @@
 -- What calls do to the memory, by parts of it.
 use Rattle.std.specs.Prelude.{ℕ, refl, List}
 use Rattle.std.specs.Coded.{Coded, code_by, coded×, coded_ℕ}
-use Rattle.d3d_model.specs.IdMap as ids
-use Rattle.d3d_model.specs.IdMap.{IdMap}
+use Rattle.base_lemmas.specs.IdMap as ids
+use Rattle.base_lemmas.specs.IdMap.{IdMap}
 use Rattle.d3d_model.specs.Regions.{filled}
 use Rattle.d3d_model.specs.D3dState.{Memory}
 use Rattle.d3d_memory.specs.Contents.{Contents, contents_code}

@@ -1,7 +1,7 @@
 ghost use Rattle.std.specs.Prelude.{◌≡◌, IfOk};
 ghost use Rattle.call_log.specs.View.{call_view};
 ghost use Rattle.d3d_model.specs.D3dState.{count_of};
-ghost use Rattle.d3d_model.specs.IdMap as ids;
+ghost use Rattle.base_lemmas.specs.IdMap as ids;
 ghost use Rattle.d3d_model.specs.Past.{Past};
 ghost use Rattle.d3d_model.specs.ReplyText.{answer, query_value, sort_if};
 ghost use Rattle.d3d_state.specs.Meaning.{objects_of};

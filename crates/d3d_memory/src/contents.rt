@@ -1,7 +1,7 @@
 ghost use Rattle.std.specs.Prelude.{◌≡◌, ◌*◌, [], nat_le, true, vec_len, IfOk, OnOk, OnErr};
 ghost use Rattle.std.specs.BTreeMap.{values};
 ghost use Rattle.std.specs.List.{list_all};
-ghost use Rattle.d3d_model.specs.IdMap as ids;
+ghost use Rattle.base_lemmas.specs.IdMap as ids;
 ghost use Rattle.d3d_model.specs.Memory.{pattern};
 ghost use Rattle.d3d_model.specs.Regions.{filled};
 ghost use Rattle.d3d_memory.specs.Contents.{AreShort, bytes_at, changed, copied, write, zeroed};
@@ -29,7 +29,7 @@ pub(crate) struct Contents {
 }
 
 impl Model for Contents {
-    ghost use Rattle.d3d_model.specs.CodeMap.{map_of};
+    ghost use Rattle.base_lemmas.specs.CodeMap.{map_of};
     ghost use Rattle.d3d_memory.specs.Contents as contents;
 
     ghost Value = { contents.Contents };

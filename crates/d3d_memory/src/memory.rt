@@ -27,7 +27,7 @@ pub struct Memory {
 }
 
 impl Model for Memory {
-    ghost use Rattle.d3d_model.specs.CodeMap.{map_of};
+    ghost use Rattle.base_lemmas.specs.CodeMap.{map_of};
     ghost use Rattle.d3d_model.specs.D3dState as model;
     ghost use Rattle.d3d_memory.specs.Effects as effects;
 

@@ -1,6 +1,6 @@
 ghost use Rattle.std.specs.Prelude.{◌≡◌, ◌+◌, ◌%◌, ◌<◌, ◌≤◌, length, slice_index_or, None};
 ghost use Rattle.std.specs.List.{find};
-ghost use Rattle.shader_model.specs.Words.{words_of};
+ghost use Rattle.base_lemmas.specs.ByteWords.{words_of};
 ghost use Rattle.d3d_model.specs.D3dState.{bindings_of};
 ghost use Rattle.d3d_model.specs.Memory.{constant_shown, constants_shown, is_declared, read, srvs_shown, uavs_shown, view_shown};
 ghost use Rattle.d3d_model.specs.Regions.{slice, words_of as bytes_as_words};

@@ -8,7 +8,7 @@ use Rattle.dx_types.specs.declared.shape.ViewShape.{ViewShape}
 use Rattle.dx_types.specs.declared.range.ResRange.{ResRange}
 use Rattle.call_log.specs.Call as calls
 use Rattle.call_log.specs.Call.{Call}
-use Rattle.d3d_model.specs.IdMap.{get}
+use Rattle.base_lemmas.specs.IdMap.{get}
 use Rattle.d3d_model.specs.Resource.{size_of}
 use Rattle.d3d_model.specs.Binding.{Bindings, BoundView, constant_range, constant_ranges, view_ranges, bound_range, set_srv, set_uav, default_bindings}
 use Rattle.d3d_model.specs.D3dState.{Objects, Numbered, buffer_of, bound_if, bound_view}

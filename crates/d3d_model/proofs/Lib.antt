@@ -1,5 +1,3 @@
-pub mod Maps
-pub mod CodeMaps
 pub mod Calls
 pub mod Replies
 pub mod Checked

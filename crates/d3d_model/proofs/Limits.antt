@@ -8,14 +8,14 @@ use Rattle.dx_types.specs.declared.shape.Shape.{Shape}
 use Rattle.dx_types.specs.declared.shape.Usage.TheVariants.{Default, Immutable, Dynamic, Staging}
 use Rattle.call_log.specs.Call as calls
 use Rattle.call_log.specs.Call.{Call, Issued}
-use Rattle.d3d_model.specs.IdMap.{get, insert, remove, values}
+use Rattle.base_lemmas.specs.IdMap.{get, insert, remove, values}
 use Rattle.d3d_model.specs.Resource.{Buffers, usage_from, usage_number, is_dynamic, class_of, counts_as, live_bytes, live_dynamic}
 use Rattle.d3d_model.specs.D3dState.{Objects, buffer_of, calls_of_list}
 use Rattle.d3d_model.specs.Past.{Past}
 use Rattle.d3d_model.specs.Verdict.{OnDevice, is_wrong_at, buffer_checks, verdict}
 use Rattle.d3d_model.specs.Effect.{destroyed, played, recorded_on, list_start, objects_after}
 use Rattle.d3d_model.specs.InOrder.{State, unless_refused, verdict_in, after_call, after_calls}
-use Rattle.d3d_model.proofs.Maps.{total-empty, total-insert, total-remove}
+use Rattle.base_lemmas.proofs.Maps.{total-empty, total-insert, total-remove}
 use Rattle.d3d_model.proofs.Checked.{all_passed, free_id}
 use Rattle.d3d_model.proofs.Sized.{same_buffers_all}
 

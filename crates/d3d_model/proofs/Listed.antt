@@ -9,7 +9,7 @@ use Rattle.dx_types.specs.declared.refusal.Refusal.{Refusal}
 use Rattle.dx_types.specs.declared.refusal.Refusal.TheVariants.{WrongContext, TooMuchMemory, BadUsage}
 use Rattle.call_log.specs.Call as calls
 use Rattle.call_log.specs.Call.{Call, Issued}
-use Rattle.d3d_model.specs.IdMap.{IdMap, empty, get, insert, remove, values}
+use Rattle.base_lemmas.specs.IdMap.{IdMap, empty, get, insert, remove, values}
 use Rattle.d3d_model.specs.Check.{Check}
 use Rattle.d3d_model.specs.Binding.{Bindings, default_bindings, holds_buffer, holds_view, holds_shader, holds_query}
 use Rattle.d3d_model.specs.D3dState.{Objects, Query, Numbered, Context, default_context, no_objects, context_of, bindings_of, with_bindings, calls_of_list}
@@ -18,7 +18,7 @@ use Rattle.d3d_model.specs.Stream.{names, is_name, list_names, is_listed, set_by
 use Rattle.d3d_model.specs.Verdict.{place_of, is_wrong_at, is_too_long, is_live_buffer, is_live_view, is_live_shader, is_live_query, call_checks, destroy_checks, unused_buffer, unused_view, unused_shader, unused_query, known_list, is_set, has_view, query_is, verdict}
 use Rattle.d3d_model.specs.Effect.{made_by, destroyed, begun_query, ended_query, queries_after, played, played_all, list_start, recorded_on, finished, objects_after}
 use Rattle.d3d_model.specs.InOrder.{State, unless_refused, verdict_in, after_call, after_calls}
-use Rattle.d3d_model.proofs.Maps.{get-empty, get-insert, get-remove, other_key}
+use Rattle.base_lemmas.proofs.Maps.{get-empty, get-insert, get-remove, other_key}
 use Rattle.d3d_model.proofs.Checked.{Passed, all_passed}
 use Rattle.d3d_model.proofs.Named.{is_live, NamesLive, names_live, one_of, none_of}
 

@@ -10,7 +10,7 @@ use Rattle.dx_types.specs.declared.shape.Shape.{Shape}
 use Rattle.dx_types.specs.declared.range.ResRange.{ResRange}
 use Rattle.call_log.specs.Call as calls
 use Rattle.call_log.specs.Call.{Call, Issued}
-use Rattle.d3d_model.specs.IdMap.{get, insert, remove}
+use Rattle.base_lemmas.specs.IdMap.{get, insert, remove}
 use Rattle.d3d_model.specs.Regions.{put, filled, slice, spelled}
 use Rattle.d3d_model.specs.Resource.{Buffers}
 use Rattle.d3d_model.specs.Binding.{Bindings, BoundView, Predicate}
@@ -20,7 +20,7 @@ use Rattle.d3d_model.specs.Verdict.{Place, OnDevice, OnImmediate, OnEach, OnDefe
 use Rattle.d3d_model.specs.Effect.{made_by, destroyed, played, played_all, list_start, executed, recorded_on, effect_at, immediate_effect}
 use Rattle.d3d_model.specs.Memory.{uavs_shown, slots_seen, write_if, write, copied, discarded, cleared, pattern, is_skipped, unless_skipped, stored, after_ran, dispatched, counts_at, made, run, run_all, run_at, immediate_run}
 use Rattle.d3d_model.specs.InOrder.{State, unless_refused, verdict_in, after_call, after_calls}
-use Rattle.d3d_model.proofs.Maps.{get-empty, get-insert, get-remove, get_same, get_other}
+use Rattle.base_lemmas.proofs.Maps.{get-empty, get-insert, get-remove, get_same, get_other}
 
 abbrev pub length_at : Memory → ℕ → Option ℕ
 length_at m id = option_map (λ (bytes : List ℕ). length bytes) (get m.bytes id)

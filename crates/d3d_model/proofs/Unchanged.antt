@@ -5,7 +5,7 @@ use Rattle.std.proofs.lemmas.Bool.{eqb-true}
 use Rattle.dx_types.specs.declared.refusal.Refusal.TheVariants.{BadUsage}
 use Rattle.call_log.specs.Call as calls
 use Rattle.call_log.specs.Call.{Call}
-use Rattle.d3d_model.specs.IdMap.{IdMap, get, remove}
+use Rattle.base_lemmas.specs.IdMap.{IdMap, get, remove}
 use Rattle.d3d_model.specs.Check.{Check, is_id}
 use Rattle.d3d_model.specs.Binding.{holds_buffer, holds_view}
 use Rattle.d3d_model.specs.D3dState.{Objects, Numbered, context_of, calls_of_list}
@@ -13,7 +13,7 @@ use Rattle.d3d_model.specs.Past.{Past}
 use Rattle.d3d_model.specs.Stream.{list_names, is_listed, deeds_of_list}
 use Rattle.d3d_model.specs.Verdict.{is_live_buffer, is_live_view, call_checks, unused_buffer, unused_view, unused_shader, unused_query, known_list, is_set, has_view, verdict}
 use Rattle.d3d_model.specs.Effect.{played, played_all, list_start, recorded_on, objects_after}
-use Rattle.d3d_model.proofs.Maps.{get-remove, get_other, other_key}
+use Rattle.base_lemmas.proofs.Maps.{get-remove, get_other, other_key}
 use Rattle.d3d_model.proofs.Checked.{Passed}
 use Rattle.d3d_model.proofs.Sized.{same_buffers_all}
 use Rattle.d3d_model.proofs.Named.{none_of}

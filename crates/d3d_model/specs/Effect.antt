@@ -3,8 +3,8 @@ use Rattle.std.specs.Prelude.{ℕ, ◌==◌, true, false, List, [], ◌∷◌, �
 use Rattle.call_log.specs.Call as calls
 use Rattle.call_log.specs.Call.{Call}
 use Rattle.d3d_model.specs.declared.codes.TheConstants.{BUFFER_CLASS, QUERY_CLASS, RESTORE_STATE, SHADER_CLASS, VIEW_CLASS}
-use Rattle.d3d_model.specs.IdMap as ids
-use Rattle.d3d_model.specs.IdMap.{IdMap}
+use Rattle.base_lemmas.specs.IdMap as ids
+use Rattle.base_lemmas.specs.IdMap.{IdMap}
 use Rattle.d3d_model.specs.Resource.{usage_from}
 use Rattle.d3d_model.specs.Binding.{default_bindings}
 use Rattle.d3d_model.specs.D3dState.{Objects, Query, Numbered, Context, default_context, context_of, bindings_of, with_bindings, calls_of_list}

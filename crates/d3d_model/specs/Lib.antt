@@ -1,6 +1,4 @@
 pub mod Codes
-pub mod IdMap
-pub mod CodeMap
 pub mod Regions
 pub mod Check
 pub mod Resource

@@ -8,7 +8,7 @@ use Rattle.dx_types.specs.declared.shape.Form.TheVariants.{Raw, Structured, Type
 use Rattle.d3d_model.specs.declared.codes.TheConstants.{BUFFER_CLASS, MAP_DISCARD}
 use Rattle.call_log.specs.Call as calls
 use Rattle.call_log.specs.Call.{Call}
-use Rattle.d3d_model.specs.IdMap as ids
+use Rattle.base_lemmas.specs.IdMap as ids
 use Rattle.d3d_model.specs.Regions.{put, filled, slice, words_of, spelled, word_at, repeated}
 use Rattle.d3d_model.specs.View.{view_range}
 use Rattle.d3d_model.specs.Binding as binding

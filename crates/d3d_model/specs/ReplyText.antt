@@ -9,8 +9,8 @@ use Rattle.dx_types.specs.Line.{line}
 use Rattle.d3d_model.specs.declared.codes.TheConstants.{EVENT_QUERY, STATISTICS_QUERY}
 use Rattle.call_log.specs.Call as calls
 use Rattle.call_log.specs.Call.{Call, Issued}
-use Rattle.d3d_model.specs.IdMap as ids
-use Rattle.d3d_model.specs.IdMap.{IdMap}
+use Rattle.base_lemmas.specs.IdMap as ids
+use Rattle.base_lemmas.specs.IdMap.{IdMap}
 use Rattle.d3d_model.specs.Regions.{slice}
 use Rattle.d3d_model.specs.D3dState.{Query, bytes_of, count_of}
 use Rattle.d3d_model.specs.InOrder.{State, verdict_in, before_call, call_at}

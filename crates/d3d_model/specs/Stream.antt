@@ -5,7 +5,7 @@ use Rattle.dx_types.specs.declared.range.ResRange.{ResRange}
 use Rattle.d3d_model.specs.declared.codes.TheConstants.{BUFFER_CLASS, COUNT_BYTES, MAP_DISCARD, MAP_WRITE, NO_PREDICATE, QUERY_CLASS, QUERY_PREDICATE, SHADER_CLASS, VIEW_CLASS}
 use Rattle.call_log.specs.Call as calls
 use Rattle.call_log.specs.Call.{Call}
-use Rattle.d3d_model.specs.IdMap as ids
+use Rattle.base_lemmas.specs.IdMap as ids
 use Rattle.d3d_model.specs.Resource.{size_of}
 use Rattle.d3d_model.specs.Binding as binding
 use Rattle.d3d_model.specs.Binding.{Bindings, Predicate, default_bindings, set_shader, set_constant, set_srv, set_uav, set_predicate, predicate_range, constant_ranges, view_ranges, bound_range}

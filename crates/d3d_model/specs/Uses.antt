@@ -5,7 +5,7 @@ use Rattle.dx_types.specs.declared.refusal.Refusal.{Refusal}
 use Rattle.dx_types.specs.declared.range.ResRange.{ResRange}
 use Rattle.call_log.specs.Call as calls
 use Rattle.call_log.specs.Call.{Call, Issued}
-use Rattle.d3d_model.specs.IdMap as ids
+use Rattle.base_lemmas.specs.IdMap as ids
 use Rattle.d3d_model.specs.D3dState.{Query, Numbered, context_of, calls_of_list}
 use Rattle.d3d_model.specs.Past as past
 use Rattle.d3d_model.specs.Past.{Deed, last_binding}

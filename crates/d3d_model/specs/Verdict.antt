@@ -13,7 +13,7 @@ use Rattle.call_log.specs.Kinds.{Kind, kinds}
 use Rattle.call_log.specs.Put.{kind_of_call}
 use Rattle.call_log.specs.Call as calls
 use Rattle.call_log.specs.Call.{Call, Issued}
-use Rattle.d3d_model.specs.IdMap as ids
+use Rattle.base_lemmas.specs.IdMap as ids
 use Rattle.d3d_model.specs.Check.{Check, first_failed, has, is_id, is_named}
 use Rattle.d3d_model.specs.Resource.{is_default, is_immutable, is_dynamic, is_staging, size_of, is_one, class_of, live_bytes, live_dynamic}
 use Rattle.d3d_model.specs.View.{form_from, unit_of, lacks_bind, lacks_form, is_outside}

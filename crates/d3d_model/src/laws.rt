@@ -2,7 +2,7 @@ ghost use Rattle.std.specs.Prelude.{◌≡◌, ℕ, ◌≤◌, List, length, Opt
 ghost use Rattle.std.specs.Option.{option_map};
 ghost use Rattle.dx_types.specs.declared.refusal.Refusal.{Refusal};
 ghost use Rattle.call_log.specs.Call.{Issued};
-ghost use Rattle.d3d_model.specs.IdMap.{get};
+ghost use Rattle.base_lemmas.specs.IdMap.{get};
 ghost use Rattle.d3d_model.specs.Resource.{live_bytes, live_dynamic};
 ghost use Rattle.d3d_model.specs.InOrder.{State, verdict_in, after_call, after_calls};
 ghost use Rattle.dx_types.specs.declared.limits.TheConstants.{MAX_DYNAMIC_OF_CLASS, MAX_LIVE_BYTES};

@@ -15,7 +15,7 @@ use Rattle.d3d_model.specs.Check.{first_failed}
 use Rattle.d3d_model.specs.Verdict.{verdict, call_checks, is_too_long, is_wrong_at, place_of}
 use Rattle.d3d_model.specs.InOrder.{State, accepted, unless_refused, verdict_in, after_call, after_calls, before_call, call_at}
 use Rattle.d3d_model.specs.ReplyText.{none_pending, answer, answer_or_still, reply_unless, reply_to, reply_at}
-use Rattle.d3d_model.proofs.Maps.{get-empty}
+use Rattle.base_lemmas.proofs.Maps.{get-empty}
 use Rattle.d3d_checks.specs.Accepted.{Accepted, is_draw, is_unbuilt}
 use Rattle.d3d_memory.specs.Meeting.{met_by}
 use Rattle.d3d_ref.specs.Stands.{Stands}

@@ -5,7 +5,7 @@ use Rattle.std.proofs.lemmas.Bool.{ltb-false}
 use Rattle.dx_types.specs.declared.refusal.Refusal.TheVariants.{IdInUse, BadUsage, BadBind, BadSize, OutOfRange, TooMuchMemory, TooManyDynamic}
 use Rattle.dx_types.specs.declared.shape.Shape.{Shape}
 use Rattle.d3d_model.specs.Check.{Check, first_failed, has, is_id}
-use Rattle.d3d_model.specs.IdMap.{get}
+use Rattle.base_lemmas.specs.IdMap.{get}
 use Rattle.d3d_model.specs.Resource.{Buffers, usage_from, usage_number, is_dynamic, class_of, live_bytes, live_dynamic}
 use Rattle.d3d_model.proofs.Checked.{all_passed, free_id}
 use Rattle.d3d_model.specs.D3dState.{Objects}

@@ -7,11 +7,11 @@ use Rattle.std.specs.Map.{lookup}
 use Rattle.std.specs.BTreeMap.{is_at}
 use Rattle.std.proofs.lemmas.Bool.{leb-false, eqb-true}
 use Rattle.dx_types.specs.declared.shape.Shape.{Shape}
-use Rattle.d3d_model.specs.IdMap.{empty, get, insert, remove}
-use Rattle.d3d_model.specs.CodeMap.{map_of}
+use Rattle.base_lemmas.specs.IdMap.{empty, get, insert, remove}
+use Rattle.base_lemmas.specs.CodeMap.{map_of}
 use Rattle.d3d_model.specs.Resource.{Buffers, is_dynamic, class_of, counts_as, live_bytes, live_dynamic}
-use Rattle.d3d_model.proofs.Maps.{total-empty, total-insert, total-remove-exactly}
-use Rattle.d3d_model.proofs.CodeMaps.{get-map_of}
+use Rattle.base_lemmas.proofs.Maps.{total-empty, total-insert, total-remove-exactly}
+use Rattle.base_lemmas.proofs.CodeMaps.{get-map_of}
 use Rattle.d3d_resources.specs.Totals.{Kept}
 
 same_value : {X : Type 0} (o : Option X) → option_map (λ x. x) o ≡ o

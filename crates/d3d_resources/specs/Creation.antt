@@ -4,7 +4,7 @@ use Rattle.dx_types.specs.declared.refusal.Refusal.TheVariants.{IdInUse, BadUsag
 use Rattle.dx_types.specs.declared.shape.Shape.{Shape}
 use Rattle.dx_types.specs.declared.limits.TheConstants.{KNOWN_BITS, MAX_DYNAMIC_OF_CLASS, MAX_LIVE_BYTES, UNORDERED_ACCESS}
 use Rattle.d3d_model.specs.Check.{Check, has, is_id}
-use Rattle.d3d_model.specs.IdMap as ids
+use Rattle.base_lemmas.specs.IdMap as ids
 use Rattle.d3d_model.specs.Resource.{Buffers, usage_from, is_immutable, is_dynamic, is_staging, class_of, live_bytes, live_dynamic}
 use Rattle.d3d_model.specs.Verdict.{is_wrong_usage, is_wrong_data, is_wrong_length, is_wrong_constant, is_wrong_stride, is_wrong_beside, has_both_forms, lacks_views}
 

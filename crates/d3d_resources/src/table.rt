@@ -1,7 +1,7 @@
 ghost use Rattle.std.specs.Prelude.{◌≡◌, ◌+◌, ◌≤◌, nat_le, nat_lt, ◌&&◌, OnErr, OnOk};
 ghost use Rattle.std.specs.Option.{ok_or};
 ghost use Rattle.d3d_model.specs.Check.{first_failed};
-ghost use Rattle.d3d_model.specs.IdMap as ids;
+ghost use Rattle.base_lemmas.specs.IdMap as ids;
 ghost use Rattle.d3d_model.specs.Resource.{class_of, is_dynamic, live_bytes, live_dynamic};
 ghost use Rattle.d3d_resources.specs.Creation.{table_checks};
 ghost use Rattle.d3d_resources.specs.Outcome.{refusal_of};
@@ -24,7 +24,7 @@ pub struct Table {
 }
 
 impl Model for Table {
-    ghost use Rattle.d3d_model.specs.CodeMap.{map_of};
+    ghost use Rattle.base_lemmas.specs.CodeMap.{map_of};
     ghost use Rattle.d3d_model.specs.Resource as resource;
     ghost use Rattle.d3d_resources.specs.Totals.{Kept};
 

@@ -8,9 +8,9 @@ use Rattle.std.specs.Ordering.{nat_cmp, eq_by_cmp}
 use Rattle.std.specs.declared.cmp.Ordering.TheVariants.{Less, Equal, Greater}
 use Rattle.std.specs.FinMap.Entries.{by_order, put}
 use Rattle.dx_types.specs.declared.shape.ViewShape.{ViewShape}
-use Rattle.d3d_model.specs.IdMap.{empty, get, insert, remove, values}
-use Rattle.d3d_model.specs.CodeMap.{map_of}
-use Rattle.d3d_model.proofs.Maps.{get-empty, get-insert, get-remove, other_key, total-empty, total-insert, total-remove-exactly}
+use Rattle.base_lemmas.specs.IdMap.{empty, get, insert, remove, values}
+use Rattle.base_lemmas.specs.CodeMap.{map_of}
+use Rattle.base_lemmas.proofs.Maps.{get-empty, get-insert, get-remove, other_key, total-empty, total-insert, total-remove-exactly}
 use Rattle.d3d_state.specs.Codes.{Views}
 use Rattle.std.specs.Prelude.{◌^◌, IfSome, unwrap_or}
 use Rattle.std.proofs.lemmas.Bool.{cases_eq}

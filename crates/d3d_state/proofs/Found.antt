@@ -9,10 +9,10 @@ use Rattle.std.specs.Ordering.{nat_cmp, eq_by_cmp}
 use Rattle.std.specs.Map.{lookup}
 use Rattle.std.specs.BTreeMap.{is_at}
 use Rattle.std.proofs.lemmas.Bool.{cases_eq}
-use Rattle.d3d_model.specs.IdMap.{IdMap, empty, get, remove}
-use Rattle.d3d_model.specs.CodeMap.{map_of}
-use Rattle.d3d_model.proofs.Maps.{get-empty, get-remove, other_key, same_map}
-use Rattle.d3d_model.proofs.CodeMaps.{get-map_of}
+use Rattle.base_lemmas.specs.IdMap.{IdMap, empty, get, remove}
+use Rattle.base_lemmas.specs.CodeMap.{map_of}
+use Rattle.base_lemmas.proofs.Maps.{get-empty, get-remove, other_key, same_map}
+use Rattle.base_lemmas.proofs.CodeMaps.{get-map_of}
 
 same_value : {X : Type 0} (o : Option X) → option_map (λ x. x) o ≡ o
 same_value None = refl

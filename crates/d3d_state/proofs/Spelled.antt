@@ -4,7 +4,7 @@ use Rattle.std.specs.Prelude.{is_some, if◌then◌else◌}
 use Rattle.shader_model.specs.Shader.{Program, program_unless, shader_of, spelled_by}
 use Rattle.shader_model.specs.declared.fault.ShaderFault.{ShaderFault}
 use Rattle.shader_model.specs.Faults.{first_bad_of_bytes}
-use Rattle.shader_model.specs.Words.{words_of}
+use Rattle.base_lemmas.specs.ByteWords.{words_of}
 use Rattle.d3d_model.specs.D3dState as model
 use Rattle.d3d_model.specs.Shader.{decodes, declared_by, declared_if, group_if, group_of, ran_dispatch, ran_if}
 use Rattle.d3d_state.specs.Shaders.{program_by, shader_from}

@@ -5,7 +5,7 @@ use Rattle.std.specs.List.{list_any}
 use Rattle.std.proofs.lemmas.Bool.Decides.{nat_tests}
 use Rattle.d3d_model.specs.Binding.{Bindings, default_bindings, holds_shader}
 use Rattle.d3d_model.specs.D3dState.{Context, default_context}
-use Rattle.d3d_model.specs.IdMap.{empty, values}
+use Rattle.base_lemmas.specs.IdMap.{empty, values}
 use Rattle.d3d_model.specs.Stream.{list_names, is_listed}
 use Rattle.d3d_model.specs.Verdict.{is_set}
 use Rattle.d3d_state.specs.Codes.{Views, Queries}

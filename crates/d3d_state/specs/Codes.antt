@@ -5,8 +5,8 @@ use mathlib.Core.Path.{ap}
 use Rattle.dx_types.specs.declared.shape.ViewShape.{ViewShape}
 use Rattle.dx_types.specs.declared.shape.Form.{Form}
 use Rattle.dx_types.specs.declared.shape.Form.TheVariants.{Raw, Structured, Typed}
-use Rattle.d3d_model.specs.IdMap as ids
-use Rattle.d3d_model.specs.IdMap.{IdMap}
+use Rattle.base_lemmas.specs.IdMap as ids
+use Rattle.base_lemmas.specs.IdMap.{IdMap}
 use Rattle.d3d_model.specs.View.{form_from, form_number}
 use Rattle.d3d_model.specs.D3dState as model
 

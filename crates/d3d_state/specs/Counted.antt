@@ -4,7 +4,7 @@ use Rattle.std.specs.Ordering.{nat_cmp}
 use Rattle.std.specs.Map.{lookup}
 use Rattle.std.specs.BTreeMap.{is_at}
 use Rattle.dx_types.specs.declared.shape.ViewShape.{ViewShape}
-use Rattle.d3d_model.specs.IdMap as ids
+use Rattle.base_lemmas.specs.IdMap as ids
 use Rattle.d3d_model.specs.View.{view_end}
 use Rattle.d3d_state.specs.Codes.{Views}
 

@@ -2,8 +2,8 @@
 use Rattle.std.specs.Prelude.{refl, ℕ, List, Option, None, Some, if◌then◌else◌}
 use Rattle.std.specs.Coded.{Coded, code_by, coded×, coded_ℕ, coded_list}
 use Rattle.shader_model.specs.Shader.{Program, shader_of}
-use Rattle.d3d_model.specs.IdMap as ids
-use Rattle.d3d_model.specs.IdMap.{IdMap}
+use Rattle.base_lemmas.specs.IdMap as ids
+use Rattle.base_lemmas.specs.IdMap.{IdMap}
 use Rattle.d3d_model.specs.D3dState as model
 use Rattle.d3d_model.specs.Shader.{decodes}
 

@@ -29,7 +29,7 @@ impl Objects {
     ghost use Rattle.d3d_model.specs.Check.{first_failed};
     ghost use Rattle.d3d_model.specs.D3dState as model;
     ghost use Rattle.d3d_model.specs.D3dState.{bindings_of, bound_view, buffer_of, no_objects, words_set};
-    ghost use Rattle.d3d_model.specs.IdMap as ids;
+    ghost use Rattle.base_lemmas.specs.IdMap as ids;
     ghost use Rattle.d3d_model.specs.Stream.{is_listed};
     ghost use Rattle.d3d_model.specs.Verdict.{has_view, is_set, query_is};
     ghost use Rattle.d3d_model.specs.View.{view_end};
@@ -167,7 +167,7 @@ impl Objects {
     ghost use Rattle.d3d_model.specs.D3dState.{bindings_of, with_bindings};
     ghost use Rattle.d3d_model.specs.Effect.{destroyed, objects_after};
     ghost use Rattle.d3d_model.specs.Binding.{set_predicate};
-    ghost use Rattle.d3d_model.specs.IdMap as ids;
+    ghost use Rattle.base_lemmas.specs.IdMap as ids;
     ghost use Rattle.d3d_model.specs.View.{view_end};
     ghost use Rattle.d3d_resources.specs.Creation.{table_checks};
     ghost use Rattle.d3d_state.specs.Meaning.{objects_of, with_buffer, with_query, with_shader, with_view};

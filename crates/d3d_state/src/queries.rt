@@ -1,6 +1,6 @@
 ghost use Rattle.std.specs.Prelude.{◌≡◌, OnErr, OnOk};
 ghost use Rattle.d3d_model.specs.Effect.{begun_query, ended_query};
-ghost use Rattle.d3d_model.specs.IdMap as ids;
+ghost use Rattle.base_lemmas.specs.IdMap as ids;
 
 use crate::Query;
 use dx_types::CallNo;
@@ -15,7 +15,7 @@ pub struct Queries {
 }
 
 impl Model for Queries {
-    ghost use Rattle.d3d_model.specs.CodeMap.{map_of};
+    ghost use Rattle.base_lemmas.specs.CodeMap.{map_of};
     ghost use Rattle.d3d_state.specs.Codes as codes;
 
     ghost Value = { codes.Queries };

@@ -1,7 +1,7 @@
 ghost use Rattle.std.specs.Prelude.{◌≡◌, IfOk, OnErr, OnOk, Some};
 ghost use Rattle.std.specs.Option.{option_copied};
 ghost use Rattle.shader_model.specs.Shader.{program_of};
-ghost use Rattle.d3d_model.specs.IdMap as ids;
+ghost use Rattle.base_lemmas.specs.IdMap as ids;
 ghost use Rattle.d3d_state.specs.Shaders.{program_by, shader_from};
 
 use dx_types::CallNo;
@@ -108,7 +108,7 @@ pub struct Shaders {
 }
 
 impl Model for Shaders {
-    ghost use Rattle.d3d_model.specs.CodeMap.{map_of};
+    ghost use Rattle.base_lemmas.specs.CodeMap.{map_of};
     ghost use Rattle.d3d_state.specs.Shaders as codes;
 
     ghost Value = { codes.Shaders };

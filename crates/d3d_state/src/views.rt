@@ -1,7 +1,7 @@
 ghost use Rattle.std.specs.Prelude.{◌≡◌, ◌==◌, ◌<◌, ◌^◌, IfSome, None, OnErr, OnOk};
 ghost use Rattle.std.specs.List.{list_any};
 ghost use Rattle.dx_types.specs.declared.shape.ViewShape.{ViewShape as Shown};
-ghost use Rattle.d3d_model.specs.IdMap as ids;
+ghost use Rattle.base_lemmas.specs.IdMap as ids;
 ghost use Rattle.d3d_model.specs.View.{view_end};
 ghost use Rattle.std.specs.BTreeMap.{get};
 ghost use Rattle.std.specs.Ordering.{nat_cmp};
@@ -20,7 +20,7 @@ pub struct Views {
 }
 
 impl Model for Views {
-    ghost use Rattle.d3d_model.specs.CodeMap.{map_of};
+    ghost use Rattle.base_lemmas.specs.CodeMap.{map_of};
     ghost use Rattle.d3d_state.specs.Codes as codes;
     ghost use Rattle.d3d_state.specs.Counted.{Counted};
 

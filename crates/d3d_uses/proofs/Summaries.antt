@@ -8,11 +8,11 @@ use Rattle.std.proofs.lemmas.Map.Steps.{set_value_same}
 use Rattle.std.specs.Option.{option_map}
 use Rattle.std.proofs.lemmas.Bool.{cases_eq}
 use Rattle.dx_types.specs.declared.range.ResRange.{ResRange}
-use Rattle.d3d_model.specs.IdMap.{get, insert, remove}
-use Rattle.d3d_model.specs.CodeMap.{map_of}
+use Rattle.base_lemmas.specs.IdMap.{get, insert, remove}
+use Rattle.base_lemmas.specs.CodeMap.{map_of}
 use Rattle.d3d_model.specs.Past.{Past, Deed, then_done, Makes, Discards, Binds}
-use Rattle.d3d_model.proofs.Maps.{get-empty, get-remove, get_same, get_other, other_key}
-use Rattle.d3d_model.proofs.CodeMaps.{get-map_of, map_of-nil, map_of-insert, map_of-remove}
+use Rattle.base_lemmas.proofs.Maps.{get-empty, get-remove, get_same, get_other, other_key}
+use Rattle.base_lemmas.proofs.CodeMaps.{get-map_of, map_of-nil, map_of-insert, map_of-remove}
 use Rattle.d3d_uses.specs.Summary.{Uses, Stands, Summarises, BindsAt, held_if, held_at, untouched}
 use Rattle.d3d_uses.specs.declared.held.Held.{Held}
 use Rattle.d3d_uses.proofs.Bytes.{same_place}

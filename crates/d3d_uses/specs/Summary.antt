@@ -4,8 +4,8 @@ use Rattle.std.specs.Prelude.{◌≡◌, ◌≢◌, ℕ, Bool, false, List, [], 
 use Rattle.std.specs.List.{list_any}
 use Rattle.std.specs.Coded.{Coded, code_by, coded×, coded_ℕ, coded_bool, coded_list, coded_option}
 use Rattle.dx_types.specs.declared.range.ResRange.{ResRange}
-use Rattle.d3d_model.specs.IdMap as ids
-use Rattle.d3d_model.specs.IdMap.{IdMap}
+use Rattle.base_lemmas.specs.IdMap as ids
+use Rattle.base_lemmas.specs.IdMap.{IdMap}
 use Rattle.d3d_model.specs.Past.{Past, Deed, Makes, then_done, makes, is_bound, last_binding, was_discarded}
 use Rattle.d3d_uses.specs.Ranges.{Ranges, Adds, meet_any}
 use Rattle.d3d_uses.specs.declared.held.Held.{Held}

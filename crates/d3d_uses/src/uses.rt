@@ -1,5 +1,5 @@
 ghost use Rattle.std.specs.Prelude.{◌≡◌, ℕ, [], ◌∷◌, map, take, true, false, None, OnErr, OnOk};
-ghost use Rattle.d3d_model.specs.IdMap as ids;
+ghost use Rattle.base_lemmas.specs.IdMap as ids;
 ghost use Rattle.d3d_model.specs.Past.{Binds, Discards, Past, is_bound, last_binding, was_discarded};
 ghost use Rattle.d3d_uses.specs.Summary.{BindsAt, Forgets, Records, RecordsMaking, Summarises, untouched, was_made};
 
@@ -19,7 +19,7 @@ pub struct Uses {
 }
 
 impl Model for Uses {
-    ghost use Rattle.d3d_model.specs.CodeMap.{map_of};
+    ghost use Rattle.base_lemmas.specs.CodeMap.{map_of};
     ghost use Rattle.d3d_uses.specs.Summary as summary;
 
     ghost Value = { summary.Uses };

@@ -4,13 +4,13 @@ use Rattle.std.specs.Prelude.{slice_index_or, slice_range}
 use Rattle.std.specs.List.{AllByRecursion}
 use Rattle.std.proofs.lemmas.List.{get_or-replicate, length-replicate}
 use Rattle.buffer_blocks.specs.declared.block.Block.{Block}
-use Rattle.shader_model.specs.Words.{words_of}
+use Rattle.base_lemmas.specs.ByteWords.{words_of}
 use Rattle.shader_slots.specs.Part.{part_of}
 use Rattle.shader_slots.specs.Bound.{Around, Bound, around_bound, unbound}
 use Rattle.vk_types.specs.declared.command.SlotName.{SlotName}
 use Rattle.vk_types.specs.declared.command.SlotName.TheVariants as slot
 use Rattle.vk_types.specs.declared.command.SlotRange.{SlotRange}
-use Rattle.vk_types.specs.Lists.{Pairwise, numbers_from}
+use Rattle.base_lemmas.specs.Lists.{Pairwise, numbers_from}
 use Rattle.vk_types.specs.Memory.{Memory}
 use Rattle.vk_types.specs.Effects.{is_constant, is_srv, is_uav, slot_words, words_in}
 use Rattle.device_memory.specs.Held.{Held, HasPart, block_of, memory_of}

@@ -18,7 +18,7 @@ use Rattle.spirv_model.specs.Meaning.ModuleDispatch.{group_of, module_dispatched
 use Rattle.vk_types.specs.declared.command.SlotName.{SlotName}
 use Rattle.vk_types.specs.declared.command.SlotName.TheVariants as slot
 use Rattle.vk_types.specs.declared.command.SlotRange.{SlotRange}
-use Rattle.vk_types.specs.Lists.{Pairwise, numbers_from}
+use Rattle.base_lemmas.specs.Lists.{Pairwise, numbers_from}
 use Rattle.vk_types.specs.Memory.{Memory, byte_in_words, number_at, or_zero, put, word_of}
 use Rattle.vk_types.specs.Effects.{is_uav, put_slot, put_slots, slot_words, slots_words, words_in}
 use Rattle.device_memory.specs.Held.{Held, HasPart, block_of, memory_of, AreAlike}

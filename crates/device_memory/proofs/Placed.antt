@@ -7,7 +7,7 @@ use Rattle.std.proofs.lemmas.Bool.{cases_eq, cond-true, cond-false, eq-eqb, eqb-
 use Rattle.vk_types.specs.declared.command.SlotName.{SlotName}
 use Rattle.vk_types.specs.declared.command.SlotName.TheVariants as slot
 use Rattle.vk_types.specs.declared.command.SlotRange.{SlotRange}
-use Rattle.vk_types.specs.Lists.{Pairwise, numbers_from}
+use Rattle.base_lemmas.specs.Lists.{Pairwise, numbers_from}
 use Rattle.vk_types.specs.Memory.{Memory}
 use Rattle.vk_types.specs.Effects.{is_constant, is_srv, is_uav, slot_words, words_in}
 use Rattle.device_memory.specs.Ranges.{AreApart, is_same}

@@ -5,9 +5,9 @@ use Rattle.std.proofs.lemmas.Bool.{cases_lt, cond-true, cond-false, lt-ltb, le-l
 use Rattle.dx_types.specs.declared.range.Range.{Range}
 use Rattle.buffer_blocks.specs.declared.block.Block.{Block}
 use Rattle.buffer_blocks.specs.Block.{bytes_of}
-use Rattle.shader_model.specs.Words.{words_of}
+use Rattle.base_lemmas.specs.ByteWords.{words_of}
 use Rattle.shader_slots.specs.Part.{spelled}
-use Rattle.vk_types.specs.Lists.{numbers_from}
+use Rattle.base_lemmas.specs.Lists.{numbers_from}
 use Rattle.vk_types.specs.Memory.{byte_in, byte_in_words, byte_of, number_at, word_of}
 use Rattle.vk_types.specs.Effects.{words_in}
 use Rattle.device_memory.specs.Held.{Held, block_of, byte_at, memory_of, HasPart, IsHeld}

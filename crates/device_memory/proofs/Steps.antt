@@ -8,7 +8,7 @@ use Rattle.shader_slots.specs.Bound.{Bound, with_write}
 use Rattle.vk_types.specs.declared.command.SlotName.{SlotName}
 use Rattle.vk_types.specs.declared.command.SlotName.TheVariants as slot
 use Rattle.vk_types.specs.declared.command.SlotRange.{SlotRange}
-use Rattle.vk_types.specs.Lists.{Pairwise}
+use Rattle.base_lemmas.specs.Lists.{Pairwise}
 use Rattle.device_memory.specs.Held.{Held, block_of}
 use Rattle.device_memory.specs.Writes.{bytes_if, exchanged}
 use Rattle.device_memory.specs.Ranges.{AreApart, CanBind, is_writable}

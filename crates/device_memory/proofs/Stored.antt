@@ -12,7 +12,7 @@ use Rattle.shader_slots.specs.Part as part
 use Rattle.vk_types.specs.declared.command.SlotName.{SlotName}
 use Rattle.vk_types.specs.declared.command.SlotName.TheVariants as slot
 use Rattle.vk_types.specs.declared.command.SlotRange.{SlotRange}
-use Rattle.vk_types.specs.Lists.{Pairwise}
+use Rattle.base_lemmas.specs.Lists.{Pairwise}
 use Rattle.vk_types.specs.Memory.{byte_in_words}
 use Rattle.vk_types.specs.Effects.{put_slot, put_slots}
 use Rattle.device_memory.specs.Held.{Held, block_of, memory_of, AreAlike}

@@ -2,7 +2,7 @@
 -- have them back with the words that it left.
 use Rattle.std.specs.Prelude.{ℕ, List, [], ◌∷◌, slice_range, slice_index_or, slice_set, Option, Some, None}
 use Rattle.dx_types.specs.declared.range.Range.{Range}
-use Rattle.shader_model.specs.Words.{words_of}
+use Rattle.base_lemmas.specs.ByteWords.{words_of}
 use Rattle.shader_slots.specs.Part.{Part, part_of}
 use Rattle.shader_slots.specs.Part as part
 use Rattle.shader_slots.specs.Bound.{Bound, with_constant, with_read, with_write}

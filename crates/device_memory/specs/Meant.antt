@@ -5,7 +5,7 @@ use Rattle.shader_model.specs.Dispatch.{is_allowed, volume}
 use Rattle.std.specs.Prelude.{◌*◌}
 use Rattle.dx_types.specs.declared.limits.TheConstants.{CONSTANT_SLOTS, SRV_SLOTS, UAV_SLOTS}
 use Rattle.spirv_model.specs.Meaning.ModuleDispatch.{group_of, module_dispatched}
-use Rattle.vk_types.specs.Lists.{numbers_from}
+use Rattle.base_lemmas.specs.Lists.{numbers_from}
 use Rattle.vk_types.specs.Effects.{Meaning, SlotWords}
 
 -- the words of the 14 constant buffers, 16 resources and 8 unordered access views that a module can name

@@ -6,7 +6,7 @@ use Rattle.vk_types.specs.declared.command.Groups.{Groups}
 use Rattle.vk_types.specs.declared.command.Work.{Work}
 use Rattle.vk_types.specs.declared.command.Work.TheVariants as work
 use Rattle.vk_types.specs.declared.command.Command.{Command}
-use Rattle.vk_types.specs.Lists.{Pairwise}
+use Rattle.base_lemmas.specs.Lists.{Pairwise}
 use Rattle.spirv_model.specs.Meaning.ModuleDispatch.{IsDefined}
 use Rattle.device_memory.specs.Held.{Held, IsHeld}
 use Rattle.device_memory.specs.Ranges.{size_of, AreApart, CanBind, CanCount, CanSkip}

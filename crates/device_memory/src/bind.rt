@@ -2,7 +2,7 @@
 
 ghost use Rattle.std.specs.Prelude.{◌≡◌, ◌<◌, slice_index_or, slice_set, None};
 ghost use Rattle.std.specs.List.{AllByRecursion};
-ghost use Rattle.vk_types.specs.Lists.{Pairwise};
+ghost use Rattle.base_lemmas.specs.Lists.{Pairwise};
 ghost use Rattle.device_memory.specs.Ranges.{AreApart, CanBind, HasSlot};
 ghost use Rattle.device_memory.specs.Binding.{CanLend, given, lent, returned, returned_part, taken};
 

@@ -4,7 +4,7 @@ ghost use Rattle.std.specs.Prelude.{◌≡◌, ◌*◌, cond, Some, IfOk, OnOk, 
 ghost use Rattle.std.specs.List.{AllByRecursion};
 ghost use Rattle.shader_model.specs.Dispatch.{is_allowed, volume};
 ghost use Rattle.spirv_model.specs.Meaning.ModuleDispatch.{IsDefined, group_of, module_dispatched};
-ghost use Rattle.vk_types.specs.Lists.{Pairwise};
+ghost use Rattle.base_lemmas.specs.Lists.{Pairwise};
 ghost use Rattle.vk_types.specs.Effects.{group_counts, put_slots, slots_words};
 ghost use Rattle.device_memory.specs.Held.{AreAlike, memory_of};
 ghost use Rattle.device_memory.specs.Meant.{module_meaning_of};

@@ -1,6 +1,6 @@
 -- A script's state in order, beside the Direct3D state.
 use Rattle.std.specs.Prelude.{◌≡◌, ℕ, true, List, Some}
-use Rattle.d3d_model.specs.IdMap.{get}
+use Rattle.base_lemmas.specs.IdMap.{get}
 use Rattle.d3d_model.specs.D3dState.{Query, count_of}
 use Rattle.d3d_model.specs.InOrder.{State}
 use Rattle.core_model.specs.Script.{InOrder}

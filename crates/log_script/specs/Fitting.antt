@@ -4,10 +4,10 @@ use Rattle.std.specs.List.{AllByRecursion}
 use Rattle.dx_types.specs.declared.shape.Shape.{Shape}
 use Rattle.dx_types.specs.declared.range.ResRange.{ResRange}
 use Rattle.dx_types.specs.declared.limits.TheConstants.{CONSTANT_BUFFER, MAX_CONSTANT_SIZE}
-use Rattle.vk_types.specs.Lists.{Pairwise}
+use Rattle.base_lemmas.specs.Lists.{Pairwise}
 use Rattle.call_log.specs.Call.{Call}
 use Rattle.d3d_model.specs.Check.{has}
-use Rattle.d3d_model.specs.IdMap.{get}
+use Rattle.base_lemmas.specs.IdMap.{get}
 use Rattle.d3d_model.specs.View.{view_range}
 use Rattle.d3d_model.specs.Binding as binding
 use Rattle.d3d_model.specs.Binding.{Bindings, BoundView, Predicate}

@@ -7,7 +7,7 @@ use Rattle.dx_types.specs.declared.range.ResRange.{ResRange}
 use Rattle.dx_types.specs.declared.shape.Shape.{Shape}
 use Rattle.dx_types.specs.declared.limits.TheConstants.{MAX_BUFFER_SIZE}
 use Rattle.d3d_model.specs.Resource.{is_dynamic, is_staging, size_of}
-use Rattle.d3d_model.specs.IdMap.{IdMap, get}
+use Rattle.base_lemmas.specs.IdMap.{IdMap, get}
 use Rattle.d3d_model.specs.D3dState.{Shader, buffer_of}
 use Rattle.d3d_model.specs.InOrder.{State}
 use Rattle.core_model.specs.Script.{Play, Create, Discard, No_overwrite, Stage, Destroy, Ask, Bytes, Turn, Asked, Item}

@@ -6,7 +6,7 @@ use Rattle.dx_types.specs.declared.limits.TheConstants.{CONSTANT_SLOTS, SRV_SLOT
 use Rattle.call_log.specs.Call as calls
 use Rattle.call_log.specs.Call.{Call, Issued}
 use Rattle.shader_model.specs.Invocation.{Slots, words_in}
-use Rattle.vk_types.specs.Lists.{numbers_from}
+use Rattle.base_lemmas.specs.Lists.{numbers_from}
 use Rattle.vk_types.specs.Effects.{Meaning, SlotWords}
 use Rattle.d3d_model.specs.Resource.{usage_from, is_dynamic, is_staging, class_of, size_of, is_one}
 use Rattle.d3d_model.specs.Shader.{ran_dispatch}

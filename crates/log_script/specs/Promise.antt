@@ -8,7 +8,7 @@ use Rattle.vk_types.specs.Allowed.{IsAllowed, outcome}
 use Rattle.vk_types.specs.Covered.{Covered}
 use Rattle.vk_types.specs.Entries.{EntriesKeep, run_entries}
 use Rattle.vk_types.specs.Listing.{acts}
-use Rattle.vk_types.specs.Lists.{IsReordering, numbers_from}
+use Rattle.base_lemmas.specs.Lists.{IsReordering, numbers_from}
 use Rattle.vk_types.specs.Memory.{zeros}
 use Rattle.vk_types.specs.RunListing.{IsRunListing}
 use Rattle.call_log.specs.Call.{Issued}

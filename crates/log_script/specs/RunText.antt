@@ -4,7 +4,7 @@ use Rattle.std.specs.Option.{option_to_list}
 use Rattle.dx_types.specs.declared.reply.Reply.{Reply}
 use Rattle.dx_types.specs.declared.reply.Reply.TheVariants as said
 use Rattle.call_log.specs.Call.{Issued}
-use Rattle.d3d_model.specs.IdMap.{insert}
+use Rattle.base_lemmas.specs.IdMap.{insert}
 use Rattle.d3d_model.specs.ReplyText.{Pending, none_pending, reply_at}
 use Rattle.core_model.specs.CoreState.{Said, Bytes_said, Value_said, Still_said, Refused_said, End_said}
 

@@ -3,7 +3,7 @@ use Rattle.std.specs.Prelude.{ℕ, ◌==◌, Bool, true, false, List, [], ◌∷
 use Rattle.dx_types.specs.declared.refusal.Refusal.{Refusal}
 use Rattle.call_log.specs.Call as calls
 use Rattle.call_log.specs.Call.{Call, Issued}
-use Rattle.d3d_model.specs.IdMap as ids
+use Rattle.base_lemmas.specs.IdMap as ids
 use Rattle.d3d_model.specs.D3dState.{Objects, Numbered, bindings_of, calls_of_list}
 use Rattle.d3d_model.specs.Stream.{binds}
 use Rattle.d3d_model.specs.Effect.{played, list_start}

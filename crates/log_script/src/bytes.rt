@@ -1,6 +1,6 @@
 ghost use Rattle.std.specs.Prelude.{◌≡◌, ℕ, ◌+◌, ◌-◌, ◌*◌, ◌/◌, ◌%◌, ◌<◌, ◌≤◌, ◌==◌, List, [], ◌∷◌, length, map, take, Some};
 ghost use Rattle.dx_types.specs.declared.range.Range.{Range};
-ghost use Rattle.vk_types.specs.Lists.{numbers_from};
+ghost use Rattle.base_lemmas.specs.Lists.{numbers_from};
 ghost use Rattle.vk_types.specs.Memory.{Memory, range, put, byte_of, word_of, byte_in, byte_in_words, number_at};
 ghost use Rattle.vk_types.specs.Effects.{words_in, is_skipped};
 ghost use Rattle.d3d_model.specs.Regions as lists;

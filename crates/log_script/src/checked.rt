@@ -2,7 +2,7 @@ ghost use Rattle.std.specs.Prelude.{◌≡◌, ℕ, List, Some, None};
 ghost use Rattle.std.specs.List.{AllByRecursion};
 ghost use Rattle.dx_types.specs.declared.shape.ViewShape.{ViewShape};
 ghost use Rattle.call_log.specs.Call.{Issued};
-ghost use Rattle.d3d_model.specs.IdMap.{get};
+ghost use Rattle.base_lemmas.specs.IdMap.{get};
 ghost use Rattle.d3d_model.specs.D3dState.{Numbered, context_of};
 ghost use Rattle.d3d_model.specs.InOrder.{verdict_in, after_calls, before_call, call_at};
 ghost use Rattle.log_script.specs.Standing.{CallStands, ViewWhole};

@@ -4,7 +4,7 @@ ghost use Rattle.dx_types.specs.declared.range.Range.{Range};
 ghost use Rattle.dx_types.specs.declared.shape.Shape.{Shape};
 ghost use Rattle.dx_types.specs.declared.shape.ViewShape.{ViewShape};
 ghost use Rattle.call_log.specs.Call.{Issued};
-ghost use Rattle.d3d_model.specs.IdMap.{get};
+ghost use Rattle.base_lemmas.specs.IdMap.{get};
 ghost use Rattle.d3d_model.specs.View.{view_range};
 ghost use Rattle.d3d_model.specs.Binding.{default_bindings};
 ghost use Rattle.d3d_model.specs.D3dState.{Numbered, buffer_of, context_of, bindings_of};

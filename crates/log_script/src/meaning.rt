@@ -1,7 +1,7 @@
 ghost use Rattle.std.specs.Prelude.{◌≡◌, ℕ, ◌-◌, ◌≤◌, Bool, List, ◌∷◌, ◌++◌, length, map, Option, Some};
 ghost use Rattle.dx_types.specs.declared.range.Range.{Range};
 ghost use Rattle.dx_types.specs.declared.reply.Reply.TheVariants as said;
-ghost use Rattle.vk_types.specs.Lists.{numbers_from};
+ghost use Rattle.base_lemmas.specs.Lists.{numbers_from};
 ghost use Rattle.vk_types.specs.Memory.{byte_of};
 ghost use Rattle.call_log.specs.Call.{Issued};
 ghost use Rattle.d3d_model.specs.InOrder.{after_calls};

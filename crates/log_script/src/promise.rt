@@ -6,7 +6,7 @@ ghost use Rattle.call_log.specs.Call.{Issued};
 ghost use Rattle.vk_types.specs.declared.op.VkOp.TheVariants as op;
 ghost use Rattle.vk_types.specs.Allowed.{IsAllowed, outcome};
 ghost use Rattle.vk_types.specs.Covered.{Covered};
-ghost use Rattle.vk_types.specs.Lists.{numbers_from};
+ghost use Rattle.base_lemmas.specs.Lists.{numbers_from};
 ghost use Rattle.d3d_model.specs.Uses.{last_use};
 ghost use Rattle.d3d_model.specs.ReplyText.{none_pending, replies, reply_at};
 ghost use Rattle.core_model.specs.CoreState.{Bytes_said, Core, start};

@@ -2,7 +2,7 @@ ghost use Rattle.std.specs.Prelude.{◌≡◌, ℕ, true, List, ◌++◌};
 ghost use Rattle.std.specs.List.{flat_map};
 ghost use Rattle.dx_types.specs.declared.reply.Reply.{Reply};
 ghost use Rattle.call_log.specs.Call.{Issued};
-ghost use Rattle.d3d_model.specs.IdMap.{get};
+ghost use Rattle.base_lemmas.specs.IdMap.{get};
 ghost use Rattle.d3d_model.specs.ReplyText.{lines, replies, text};
 ghost use Rattle.core_model.specs.CoreState.{Core, start};
 ghost use Rattle.core_model.specs.CoreStep.{Event, Chain};

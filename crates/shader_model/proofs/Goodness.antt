@@ -1,4 +1,5 @@
 -- The program of bytes without a bad word is good.
+use Rattle.base_lemmas.proofs.ByteWords.{words_length}
 use Rattle.std.proofs.Common.{◌≡◌, ◌==◌, ◌≤◌, ◌-◌, ◌/◌, ◌%◌, ℕ, zero, suc, ◌+◌, Bool, true, false, not, ◌&&◌, ◌||◌, nat_lt, List, [], ◌∷◌, length, take, drop, Option, Some, None, is_some, if◌then◌else◌, unwrap_or, slice_index, refl, ap, sym, subst, ◌∙◌, arith, length-drop}
 use Rattle.std.proofs.lemmas.Bool.{eqb-true, eq-eqb}
 use Rattle.std.proofs.lemmas.Bool.Decides.{nat_tests}
@@ -6,7 +7,8 @@ use Rattle.std.specs.List.{cons_option}
 use Rattle.shader_model.specs.declared.statement.Statement.{Statement}
 use Rattle.shader_model.specs.declared.fault.ShaderFault.{ShaderFault}
 use Rattle.shader_model.specs.declared.fault.ShaderKind.TheVariants as kind
-use Rattle.shader_model.specs.Words.{words_of, count_in}
+use Rattle.shader_model.specs.Words.{count_in}
+use Rattle.base_lemmas.specs.ByteWords.{words_of}
 use Rattle.shader_model.specs.Body.{Body}
 use Rattle.shader_model.specs.Nesting.{tree_of}
 use Rattle.shader_model.specs.Items.{Item, opcode, items_from, items_of, declares, declares_fit, is_declaration, is_all_there, has_its_length}
@@ -18,13 +20,6 @@ use Rattle.shader_model.proofs.Spelling.{kept_first, kept_later, kept_both, not_
 use Rattle.shader_model.proofs.Fitting.{tree_fits}
 use Rattle.shader_model.proofs.Declaring.{own_rules, all_fit, temps_rule, all_declared}
 use Rattle.shader_model.proofs.Depth.{tree_depth, tree_size}
-
-pub words_length : (b : List ℕ) → length (words_of b) ≡ length b / 4
-words_length [] = refl
-words_length (a ∷ []) = refl
-words_length (a ∷ b ∷ []) = refl
-words_length (a ∷ b ∷ c ∷ []) = refl
-words_length (a ∷ b ∷ c ∷ d ∷ rest) = omega (arith, words_length rest)
 
 -- there are at most as many items as words, and as many statements as items
 items_length : (at k : ℕ) (ws : List ℕ) → length (items_from at k ws) ≤ length ws

@@ -13,7 +13,8 @@ use Rattle.shader_model.specs.declared.opcode.Kind.TheVariants.{Destination, Sou
 use Rattle.shader_model.specs.declared.opcode.Row.{Row}
 use Rattle.shader_model.specs.declared.opcode.Access.{Access}
 use Rattle.shader_model.specs.declared.opcode.Access.TheVariants.{Loads, Stores, Changes, ReachesNone}
-use Rattle.shader_model.specs.Words.{bits, file_in, mask_in, index_in, flag_in, writable_in, extra_in, words_of}
+use Rattle.shader_model.specs.Words.{bits, file_in, mask_in, index_in, flag_in, writable_in, extra_in}
+use Rattle.base_lemmas.specs.ByteWords.{words_of}
 use Rattle.shader_model.specs.Opcodes.{row_of}
 use Rattle.shader_model.specs.Items.{Item, Part, opcode, items_of, parts_of, is_declaration, is_known, has_its_length}
 use Rattle.shader_model.specs.Fields.{form_of, statement_of, statements, declarations, declared_among, used_as, slot_use_of, temps_said}

@@ -1,8 +1,8 @@
 -- What stands where in a buffer's bytes, once a word of a part of them was set.
 use Rattle.std.proofs.Common.{◌≡◌, ℕ, zero, suc, [], ◌∷◌, ◌+◌, ◌-◌, ◌/◌, ◌%◌, ◌<◌, ◌≤◌, List, ◌++◌, length, take, drop, get_or, refl, sym, ap, ◌∙◌, arith}
 use Rattle.std.proofs.lemmas.List.{length-append, length-take, length-drop, drop-drop, take_at, drop_at, take-append-drop, get_or-drop}
-use Rattle.shader_model.specs.Words.{words_of}
-use Rattle.shader_model.proofs.Goodness.{words_length}
+use Rattle.base_lemmas.specs.ByteWords.{words_of}
+use Rattle.base_lemmas.proofs.ByteWords.{words_length}
 use Rattle.shader_slots.specs.Part.{part_of, bytes_of}
 use Rattle.shader_slots.proofs.Spelling.{spelled_back}
 

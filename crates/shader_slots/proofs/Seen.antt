@@ -3,9 +3,9 @@ use Rattle.std.proofs.Common.{◌≡◌, ℕ, zero, suc, ◌+◌, ◌*◌, ◌^�
 use Rattle.std.proofs.Math.ListN.{set, get_or-map}
 use Rattle.std.proofs.lemmas.List.{map-set}
 use Rattle.std.proofs.Math.Seq.{map-set_same}
-use Rattle.shader_model.specs.Words.{words_of}
+use Rattle.base_lemmas.specs.ByteWords.{words_of}
 use Rattle.shader_model.specs.Invocation.{words_in}
-use Rattle.shader_model.proofs.Goodness.{words_length}
+use Rattle.base_lemmas.proofs.ByteWords.{words_length}
 use Rattle.shader_slots.specs.Part.{Part}
 use Rattle.shader_slots.specs.Bound.{seen, words_bound, around_bound, with_write, with_written, with_word, between, part_at}
 

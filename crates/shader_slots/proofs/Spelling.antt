@@ -3,8 +3,8 @@ use Rattle.std.proofs.Common.{◌≡◌, ℕ, zero, suc, ◌+◌, ◌-◌, ◌*�
 use Rattle.std.proofs.Math.ListN.{set}
 use Rattle.std.proofs.lemmas.List.{take_all, drop_all, append-nil}
 use Rattle.byteorder.specs.Endian.{little_number, little_bytes}
-use Rattle.shader_model.specs.Words.{words_of}
-use Rattle.shader_model.proofs.Goodness.{words_length}
+use Rattle.base_lemmas.specs.ByteWords.{words_of}
+use Rattle.base_lemmas.proofs.ByteWords.{words_length}
 use Rattle.shader_slots.specs.Part.{spelled}
 
 -- a word stands inside its bytes

@@ -2,7 +2,7 @@
 use Rattle.std.specs.Prelude.{ℕ, List, ◌++◌, take, drop, slice_range}
 use Rattle.std.specs.List.{flat_map}
 use Rattle.byteorder.specs.Endian.{little_bytes}
-use Rattle.shader_model.specs.Words.{words_of}
+use Rattle.base_lemmas.specs.ByteWords.{words_of}
 
 -- the words of a part, and the buffer's bytes before and behind it
 pub record Part : Type 0 where

@@ -1,5 +1,5 @@
 ghost use Rattle.std.specs.Prelude.{◌≡◌, ◌%◌, ◌<◌, ◌≤◌, length, map, slice_index, slice_set, None, Some};
-ghost use Rattle.shader_model.specs.Words.{words_of};
+ghost use Rattle.base_lemmas.specs.ByteWords.{words_of};
 ghost use Rattle.shader_model.specs.Invocation.{words_in};
 ghost use Rattle.shader_slots.specs.Bound.{WithinLimit, around_bound, unbound, words_bound, with_constant, with_read, with_write, with_written, part_at};
 ghost use Rattle.dx_types.specs.declared.limits.TheConstants.{MAX_BUFFER_SIZE, MAX_BUFFER_WORDS};
@@ -21,7 +21,7 @@ pub struct Slots<'a> {
 
 impl<'a> Model for Slots<'a> {
     ghost use Rattle.std.specs.Prelude.{map};
-    ghost use Rattle.shader_model.specs.Words.{words_of};
+    ghost use Rattle.base_lemmas.specs.ByteWords.{words_of};
     ghost use Rattle.shader_slots.specs.Bound.{Bound, WithinLimit, seen};
 
     ghost Value = { Bound };

@@ -1,7 +1,7 @@
 // The words of little-endian bytes.
 
 ghost use Rattle.std.specs.Prelude.{ℕ, ◌≡◌, ◌<◌, length, slice_index, slice_set};
-ghost use Rattle.shader_model.specs.Words.{words_of};
+ghost use Rattle.base_lemmas.specs.ByteWords.{words_of};
 
 use byteorder::{ByteOrder, LittleEndian};
 

@@ -1,8 +1,8 @@
 -- The words of bytes, of which some are left out.
 use Rattle.std.proofs.Common.{◌≡◌, ℕ, zero, suc, ◌+◌, ◌*◌, ◌/◌, ◌^◌, min, List, [], ◌∷◌, length, take, drop, get_or, ◌-◌, length-drop, ◌<◌, refl, ap, sym, ◌∙◌, arith}
 use Rattle.std.proofs.lemmas.List.{drop_min, take_min, take_all}
-use Rattle.shader_model.specs.Words.{words_of}
-use Rattle.shader_model.proofs.Goodness.{words_length}
+use Rattle.base_lemmas.specs.ByteWords.{words_of}
+use Rattle.base_lemmas.proofs.ByteWords.{words_length}
 
 -- four times a number, one step of four at a time
 fours : ℕ → ℕ

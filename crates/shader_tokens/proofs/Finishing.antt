@@ -6,7 +6,8 @@ use Rattle.std.proofs.lemmas.List.{reverse-append}
 use Rattle.shader_model.specs.declared.tree.Declared.{Declared}
 use Rattle.shader_model.specs.declared.fault.ShaderFault.{ShaderFault}
 use Rattle.shader_model.specs.declared.fault.ShaderKind.TheVariants as kind
-use Rattle.shader_model.specs.Words.{words_of, count_in}
+use Rattle.shader_model.specs.Words.{count_in}
+use Rattle.base_lemmas.specs.ByteWords.{words_of}
 use Rattle.shader_model.specs.Body.{End, nodes_before, body_of}
 use Rattle.shader_model.specs.Nesting.{Block, Whole, tree_of, whole}
 use Rattle.shader_model.specs.Items.{items_of}
@@ -15,7 +16,8 @@ use Rattle.shader_model.specs.Faults.{first_broken, or_else, is_empty, fault_at,
 use Rattle.shader_model.specs.Shader.{Program, Tree, program_of, program_with, program_unless, sizes_of, spelled_by, shader_of}
 use Rattle.shader_model.specs.Good.{IsGood}
 use Rattle.shader_model.proofs.Putting.{nodes_at_end}
-use Rattle.shader_model.proofs.Goodness.{words_length, first_group, good_shader}
+use Rattle.shader_model.proofs.Goodness.{first_group, good_shader}
+use Rattle.base_lemmas.proofs.ByteWords.{words_length}
 use Rattle.shader_tokens.specs.declared.levels.Level.{Level}
 use Rattle.shader_tokens.specs.declared.reader.Reader.{Reader}
 use Rattle.shader_tokens.specs.Levels.{kind as block_kind, levels_around}

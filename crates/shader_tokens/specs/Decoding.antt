@@ -10,7 +10,7 @@ use Rattle.shader_model.specs.declared.tree.Target.{Target}
 use Rattle.shader_model.specs.declared.tree.Operand.{Operand}
 use Rattle.shader_model.specs.declared.tree.SlotUse.{SlotUse}
 use Rattle.shader_model.specs.declared.statement.Statement.{Statement}
-use Rattle.shader_model.specs.Words.{words_of}
+use Rattle.base_lemmas.specs.ByteWords.{words_of}
 use Rattle.shader_model.specs.Items.{Item, Part, opcode, more_of, parts_from, is_declaration}
 use Rattle.shader_model.specs.Fields.{target_of, operand_of, slot_use_of, statement_of, statements, declared_of, declarations, temps_said}
 use Rattle.shader_model.specs.Faults.{Rule, Said, operand_rules, is_empty, fault_at, items_fault, or_else, first_broken, bytes_rules, header_rules}

@@ -1,7 +1,7 @@
 // From bytes to a shader.
 
 ghost use Rattle.std.specs.Prelude.{◌≡◌, ◌≤◌, [], Some, None, List, ℕ, length, IfOk};
-ghost use Rattle.shader_model.specs.Words.{words_of};
+ghost use Rattle.base_lemmas.specs.ByteWords.{words_of};
 ghost use Rattle.shader_model.specs.Items.{items_of, items_from};
 ghost use Rattle.shader_model.specs.Faults.{items_fault, first_bad_of_bytes};
 ghost use Rattle.shader_model.specs.Shader.{program_of, shader_of};

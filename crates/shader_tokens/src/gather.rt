@@ -1,7 +1,7 @@
 // From an instruction's words to its statement.
 
 ghost use Rattle.std.specs.Prelude.{◌≡◌, true, List, slice_index};
-ghost use Rattle.shader_model.specs.Words.{words_of};
+ghost use Rattle.base_lemmas.specs.ByteWords.{words_of};
 ghost use Rattle.shader_model.specs.Items.{Part, more_of};
 ghost use Rattle.shader_model.specs.Items as items;
 ghost use Rattle.shader_model.specs.Opcodes as table;

@@ -2,7 +2,7 @@
 
 ghost use Rattle.std.specs.Prelude.{◌≡◌, length};
 ghost use Rattle.shader_model.specs.Words as words;
-ghost use Rattle.shader_model.specs.Words.{words_of};
+ghost use Rattle.base_lemmas.specs.ByteWords.{words_of};
 ghost use Rattle.shader_model.specs.Items as items;
 ghost use Rattle.shader_tokens.specs.Decoding.{item_of, walks};
 

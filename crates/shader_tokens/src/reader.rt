@@ -6,7 +6,7 @@ ghost use Rattle.shader_model.specs.declared.statement.Statement as statement_;
 ghost use Rattle.shader_model.specs.declared.fault.ShaderKind.TheVariants as kind;
 ghost use Rattle.shader_model.specs.declared.opcode.Access as access_;
 ghost use Rattle.shader_model.specs.declared.opcode.Kind.TheVariants.{Destination, Source, SlotWord};
-ghost use Rattle.shader_model.specs.Words.{words_of};
+ghost use Rattle.base_lemmas.specs.ByteWords.{words_of};
 ghost use Rattle.shader_model.specs.Opcodes as table;
 ghost use Rattle.shader_model.specs.Items as items;
 ghost use Rattle.shader_model.specs.Fields as fields;

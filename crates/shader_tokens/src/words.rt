@@ -1,7 +1,8 @@
 // The words of little-endian bytes, and the parts of a word.
 
 ghost use Rattle.std.specs.Prelude.{◌≡◌, ◌≤◌, ◌<◌, ◌∷◌, length, take, drop, slice_index};
-ghost use Rattle.shader_model.specs.Words.{words_of, bits};
+ghost use Rattle.shader_model.specs.Words.{bits};
+ghost use Rattle.base_lemmas.specs.ByteWords.{words_of};
 
 /// How many words there are; up to three last bytes make none.
 pub fn len(bytes: &[u8]) -> usize

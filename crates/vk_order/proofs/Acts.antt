@@ -4,9 +4,9 @@ use Rattle.std.specs.List.{AllByRecursion}
 use Rattle.std.proofs.lemmas.Bool.{and_parts, both_ways, cases_Bool, eq-eqb, ne_eqb}
 use Rattle.std.proofs.lemmas.List.Folds.{list_any-append}
 use Rattle.vk_types.specs.declared.op.VkOp.{VkOp}
-use Rattle.vk_types.specs.Lists.{IsReordering}
+use Rattle.base_lemmas.specs.Lists.{IsReordering}
 use Rattle.vk_types.specs.Listing.{is_act, act_places, acts}
-use Rattle.vk_types.proofs.Lists.{all_front, all_back, all_map, all_both, all_reordered, pairs_with}
+use Rattle.base_lemmas.proofs.Lists.{all_front, all_back, all_map, all_both, all_reordered, pairs_with}
 use Rattle.vk_order.specs.Order.{is_act_in, is_new_in, is_new_at, stands_in}
 use Rattle.vk_order.proofs.Whole.{IsIn, Distinct, no_more, whole_order}
 

@@ -1,6 +1,6 @@
 -- A scan of a list by its places, for an element that fails a test.
 use Rattle.std.proofs.Common.{◌≡◌, ℕ, zero, suc, ◌+◌, Bool, true, false, ◌&&◌, List, [], ◌∷◌, take, refl, sym, ap, ◌∙◌, Option, Some, None, slice_get, add-one}
-use Rattle.vk_types.specs.Lists.{all_pass}
+use Rattle.base_lemmas.specs.Lists.{all_pass}
 
 module _ {X : Type 0} (p : X → Bool) where
   -- an element that fails

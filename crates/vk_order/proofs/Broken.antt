@@ -6,7 +6,7 @@ use Rattle.std.proofs.lemmas.Option.{slice_get_past}
 use Rattle.vk_types.specs.declared.op.VkOp.{VkOp}
 use Rattle.vk_types.specs.Before.{Side, On_host, On_device, No_act, side_of, side_at, sides_ordered, before}
 use Rattle.vk_types.specs.Allowed.{Keeps}
-use Rattle.vk_types.proofs.Scan.{scan_hit, scan_miss}
+use Rattle.base_lemmas.proofs.Scan.{scan_hit, scan_miss}
 use Rattle.vk_order.specs.Order.{late_of, stands_in, stands_before, is_broken}
 use Rattle.vk_order.proofs.Acts.{unequal}
 

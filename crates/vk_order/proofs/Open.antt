@@ -8,7 +8,7 @@ use Rattle.vk_types.specs.declared.touch.Touch.{Touch}
 use Rattle.vk_types.specs.declared.command.Command.{Command}
 use Rattle.vk_types.specs.declared.op.VkOp.{VkOp}
 use Rattle.vk_types.specs.declared.op.VkOp.TheVariants as op
-use Rattle.vk_types.specs.Lists.{all_pass}
+use Rattle.base_lemmas.specs.Lists.{all_pass}
 use Rattle.vk_types.specs.Memory.{meets}
 use Rattle.vk_types.specs.Hazards.{touches, has_write, touches_conflict, lists_conflict, host_write_touch, host_read_touch}
 use Rattle.vk_types.specs.Listing.{between, op_touches, touches_if, touches_at, submission_of}

@@ -5,9 +5,9 @@ use Rattle.std.proofs.lemmas.Bool.{le-ltb}
 use Rattle.std.proofs.lemmas.List.{take_more}
 use Rattle.vk_types.specs.declared.op.VkOp.{VkOp}
 use Rattle.vk_types.specs.Before.{side_at, sides_ordered, before}
-use Rattle.vk_types.specs.Lists.{Pairwise}
+use Rattle.base_lemmas.specs.Lists.{Pairwise}
 use Rattle.vk_types.specs.Allowed.{Keeps}
-use Rattle.vk_types.proofs.Lists.{all_map, all_append}
+use Rattle.base_lemmas.proofs.Lists.{all_map, all_append}
 use Rattle.vk_order.specs.Order.{stands_in}
 use Rattle.vk_order.proofs.Acts.{unequal}
 

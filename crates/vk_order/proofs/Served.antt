@@ -10,7 +10,7 @@ use Rattle.vk_types.specs.declared.command.Command.{Command}
 use Rattle.vk_types.specs.declared.op.Barrier.{Barrier}
 use Rattle.vk_types.specs.declared.op.VkOp.{VkOp}
 use Rattle.vk_types.specs.declared.op.VkOp.TheVariants as op
-use Rattle.vk_types.specs.Lists.{all_pass}
+use Rattle.base_lemmas.specs.Lists.{all_pass}
 use Rattle.vk_types.specs.Hazards.{touches, same_stage, has_write, lists_conflict, read_write_access}
 use Rattle.vk_types.specs.Listing.{between}
 use Rattle.vk_types.specs.Before.{access_at, names_stages_of}

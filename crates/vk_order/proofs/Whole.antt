@@ -2,8 +2,8 @@
 use Rattle.std.proofs.Common.{◌≡◌, ℕ, suc, ◌≤◌, List, [], ◌∷◌, ◌++◌, length, refl, sym, ap, ◌∙◌, subst, ◌⊎◌, inl, inr, arith, length-append}
 use Rattle.std.specs.List.{AllByRecursion}
 use Rattle.std.proofs.lemmas.Bool.{cases_eq}
-use Rattle.vk_types.specs.Lists.{Pairwise, IsReordering}
-use Rattle.vk_types.proofs.Lists.{all_front, all_back, all_append, all_map, all_both, pairs_without, pairs_to}
+use Rattle.base_lemmas.specs.Lists.{Pairwise, IsReordering}
+use Rattle.base_lemmas.proofs.Lists.{all_front, all_back, all_append, all_map, all_both, pairs_without, pairs_to}
 
 -- x stands in the list
 abbrev pub IsIn : List ℕ → ℕ → Type 0

@@ -8,7 +8,7 @@ use Rattle.vk_types.specs.declared.command.Command.{Command}
 use Rattle.vk_types.specs.declared.op.Barrier.{Barrier}
 use Rattle.vk_types.specs.declared.op.VkOp.{VkOp}
 use Rattle.vk_types.specs.declared.op.VkOp.TheVariants as op
-use Rattle.vk_types.specs.Lists.{all_pass}
+use Rattle.base_lemmas.specs.Lists.{all_pass}
 use Rattle.vk_types.specs.Hazards.{touches, has_write, touches_conflict, conflict, host_write_touch, host_read_touch}
 use Rattle.vk_types.specs.Listing.{first_submit}
 use Rattle.vk_types.specs.Before.{access_at, barrier_orders, op_orders, is_fenced}

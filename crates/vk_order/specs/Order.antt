@@ -2,7 +2,7 @@
 use Rattle.std.specs.Prelude.{◌≡◌, ℕ, ◌<◌, Bool, true, false, not, cond, ◌==◌, ◌&&◌, List, [], ◌∷◌, take, Option, Some, None, slice_get}
 use Rattle.std.specs.List.{list_any}
 use Rattle.vk_types.specs.declared.op.VkOp.{VkOp}
-use Rattle.vk_types.specs.Lists.{IsReordering}
+use Rattle.base_lemmas.specs.Lists.{IsReordering}
 use Rattle.vk_types.specs.Listing.{is_act, acts, first_submit}
 use Rattle.vk_types.specs.Before.{Side, On_host, On_device, No_act, op_orders, is_fenced, before}
 

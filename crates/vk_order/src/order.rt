@@ -6,7 +6,7 @@ ghost use Rattle.vk_types.specs.Listing as listing;
 ghost use Rattle.vk_types.specs.Before.{On_device, side, before};
 ghost use Rattle.vk_types.specs.Allowed.{IsAllowed};
 ghost use Rattle.std.specs.List.{AllByRecursion};
-ghost use Rattle.vk_types.specs.Lists.{IsReordering, Pairwise};
+ghost use Rattle.base_lemmas.specs.Lists.{IsReordering, Pairwise};
 ghost use Rattle.vk_order.specs.Order.{ordered_by, is_act_in, is_new_at, late_of, is_broken};
 ghost use Rattle.vk_order.specs.Order as wanted;
 ghost use Rattle.vk_order.specs.Ends.{IsOrderEnd};

@@ -3,7 +3,7 @@
 ghost use Rattle.std.specs.Prelude.{◌≡◌, IsTrue};
 ghost use Rattle.std.specs.List.{list_any};
 ghost use Rattle.vk_types.specs.declared.touch.Touch.{Touch};
-ghost use Rattle.vk_types.specs.Lists.{all_pass};
+ghost use Rattle.base_lemmas.specs.Lists.{all_pass};
 ghost use Rattle.vk_types.specs.Hazards.{touches, host_read_touch};
 ghost use Rattle.vk_types.specs.Covered.{makes_visible, makes_host_visible, commands_visible, host_visible, op_barrier, each_pair};
 ghost use Rattle.vk_types.specs.Covered as cover;

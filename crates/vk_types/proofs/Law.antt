@@ -7,7 +7,7 @@ use Rattle.dx_types.specs.declared.range.Range.{Range}
 use Rattle.vk_types.specs.declared.touch.Touch.{Touch}
 use Rattle.vk_types.specs.declared.op.VkOp.{VkOp}
 use Rattle.vk_types.specs.declared.op.VkOp.TheVariants as op
-use Rattle.vk_types.specs.Lists.{Pairwise, IsReordering}
+use Rattle.base_lemmas.specs.Lists.{Pairwise, IsReordering}
 use Rattle.vk_types.specs.Memory.{Memory, byte_of}
 use Rattle.vk_types.specs.Hazards.{is_touched, lists_conflict}
 use Rattle.vk_types.specs.Effects.{Meaning, Act, Host_write, Device, Host_read, act_touches, act_effect, host_source}
@@ -17,7 +17,7 @@ use Rattle.vk_types.specs.Covered.{visible_at, is_hazard, Covered, OrdersHazards
 use Rattle.vk_types.specs.Allowed.{World, answered, happens, run_places, empty_world, outcome, IsAllowed, Keeps}
 use Rattle.vk_types.proofs.Local.{covered, not_written, not_written_back}
 use Rattle.vk_types.proofs.Acts.{act_local, acts_exchange}
-use Rattle.vk_types.proofs.Lists.{all_map}
+use Rattle.base_lemmas.proofs.Lists.{all_map}
 use Rattle.vk_types.proofs.Reorder.{run_steps, orders_agree, Commute}
 
 -- What the host reads -----------------------------------------------------------------------------------------------------

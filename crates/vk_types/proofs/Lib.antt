@@ -1,4 +1,3 @@
-pub mod Lists
 pub mod Reorder
 pub mod Local
 pub mod Acts
@@ -6,5 +5,4 @@ pub mod Examples
 pub mod Law
 pub mod Order
 pub mod Bridge
-pub mod Scan
 pub mod Serving

@@ -17,14 +17,14 @@ use Rattle.vk_types.specs.declared.command.Work.TheVariants as work
 use Rattle.vk_types.specs.declared.op.Barrier.{Barrier}
 use Rattle.vk_types.specs.declared.op.VkOp.{VkOp}
 use Rattle.vk_types.specs.declared.op.VkOp.TheVariants as op
-use Rattle.vk_types.specs.Lists.{all_pass}
+use Rattle.base_lemmas.specs.Lists.{all_pass}
 use Rattle.vk_types.specs.Hazards.{touches, touch, read_access, write_access, read_write_access, work_touches, groups_touches, cond_touches, slot_touch, same_stage, has_write, touches_conflict}
 use Rattle.vk_types.specs.Before.{access_at, names_stages_of, barrier_orders, op_orders}
 use Rattle.vk_types.specs.Covered.{allowed_by, makes_visible, op_barrier, commands_visible, each_pair}
 use Rattle.vk_types.specs.BarrierCauses.{writes_at, all_device}
 use Rattle.vk_types.specs.Serving.{Serves, ServesOp}
 use Rattle.vk_types.proofs.Order.{device_names}
-use Rattle.vk_types.proofs.Scan.{scan_hit}
+use Rattle.base_lemmas.proofs.Scan.{scan_hit}
 
 -- one of the operations is a barrier that serves the command
 abbrev pub HasServing : Command → List VkOp → Type 0

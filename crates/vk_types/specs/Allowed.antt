@@ -2,7 +2,7 @@
 use Rattle.std.specs.Prelude.{◌≡◌, ℕ, Bool, false, cond, ◌==◌, List, [], ◌∷◌, Option, Some, None}
 use Rattle.dx_types.specs.declared.range.Range.{Range}
 use Rattle.vk_types.specs.declared.op.VkOp.{VkOp}
-use Rattle.vk_types.specs.Lists.{Pairwise, IsReordering}
+use Rattle.base_lemmas.specs.Lists.{Pairwise, IsReordering}
 use Rattle.vk_types.specs.Memory.{Memory, zeros, byte_of}
 use Rattle.vk_types.specs.Effects.{Meaning, Act, act_effect, host_source}
 use Rattle.vk_types.specs.Listing.{acts, act_at}

@@ -11,7 +11,7 @@ use Rattle.vk_types.specs.declared.op.Barrier.{Barrier}
 use Rattle.vk_types.specs.declared.op.VkOp.{VkOp}
 use Rattle.vk_types.specs.declared.op.VkOp.TheVariants as op
 use Rattle.vk_types.specs.Hazards.{touches, has_read, has_write, allows, touches_conflict, lists_conflict}
-use Rattle.vk_types.specs.Lists.{all_pass}
+use Rattle.base_lemmas.specs.Lists.{all_pass}
 use Rattle.vk_types.specs.Listing.{between, op_touches, touches_at}
 use Rattle.vk_types.specs.Before.{access_at, barrier_orders, before}
 

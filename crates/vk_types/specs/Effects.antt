@@ -11,7 +11,7 @@ use Rattle.vk_types.specs.declared.command.Work.{Work}
 use Rattle.vk_types.specs.declared.command.Work.TheVariants as work
 use Rattle.vk_types.specs.declared.command.Cond.{Cond}
 use Rattle.vk_types.specs.declared.command.Command.{Command}
-use Rattle.vk_types.specs.Lists.{numbers_from}
+use Rattle.base_lemmas.specs.Lists.{numbers_from}
 use Rattle.vk_types.specs.Memory.{Memory, put, byte_of, word_of, byte_in, byte_in_words, number_at}
 use Rattle.vk_types.specs.Hazards.{touches, host_write_touch, host_read_touch}
 

@@ -5,7 +5,7 @@ ghost use Rattle.std.specs.Prelude.{◌≡◌, ℕ, Bool, List};
 ghost use Rattle.vk_types.specs.Effects.{Meaning, Act, act_touches, act_effect, effect, invocations};
 ghost use Rattle.vk_types.specs.Locality.{IsLocal, DependsOnReads};
 ghost use Rattle.vk_types.specs.Hazards.{touches};
-ghost use Rattle.vk_types.specs.Lists.{IsReordering};
+ghost use Rattle.base_lemmas.specs.Lists.{IsReordering};
 ghost use Rattle.vk_types.specs.Listing.{acts};
 ghost use Rattle.vk_types.specs.Covered.{Covered, OrdersHazards, is_hazard};
 ghost use Rattle.vk_types.specs.Allowed.{IsAllowed, Keeps, outcome};

@@ -3,7 +3,7 @@ use Rattle.std.proofs.Common.{◌≡◌, ℕ, Bool, true, false, cond, ◌==◌,
 use Rattle.std.specs.List.{AllByRecursion}
 use Rattle.std.proofs.lemmas.Bool.{cases_Bool, eqb-true}
 use Rattle.dx_types.specs.declared.range.Range.{Range}
-use Rattle.vk_types.proofs.Lists.{all_back}
+use Rattle.base_lemmas.proofs.Lists.{all_back}
 use Rattle.core_model.specs.Script.{updated}
 use Rattle.core_model.specs.CoreState.{Owner, Unmade, Home, Returning, Spare, Live, Retired, Paged, Dropped, has_class, Pool}
 use Rattle.core_model.specs.Owners.{bind_owner, retire_owner, is_block, retired, finish_owner, return_owner}

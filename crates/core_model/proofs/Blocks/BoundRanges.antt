@@ -6,7 +6,7 @@ use Rattle.std.proofs.lemmas.List.Folds.{list_any-append}
 use Rattle.dx_types.specs.declared.range.Range.{Range}
 use Rattle.vk_types.specs.Memory.{covers, range, or_zero}
 use Rattle.vk_types.specs.Effects.{Meaning}
-use Rattle.vk_types.proofs.Lists.{all_map}
+use Rattle.base_lemmas.proofs.Lists.{all_map}
 use Rattle.vk_types.proofs.Local.{covered, covered_block, covered_from, covered_to}
 use Rattle.core_model.specs.Script.{Destroy, Turn, Item, Script, updated, at_start, in_order}
 use Rattle.core_model.specs.Renaming.{BlockMap, block_of, range_on}

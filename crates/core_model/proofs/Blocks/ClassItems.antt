@@ -6,7 +6,7 @@ use Rattle.dx_types.specs.declared.range.Range.{Range}
 use Rattle.vk_types.specs.declared.command.Cond.{Cond}
 use Rattle.vk_types.specs.Memory.{range}
 use Rattle.vk_types.specs.Effects.{Meaning}
-use Rattle.vk_types.proofs.Lists.{all_back}
+use Rattle.base_lemmas.proofs.Lists.{all_back}
 use Rattle.core_model.specs.Script.{Play, Create, Discard, No_overwrite, Stage, Command, Destroy, Create_shader, Mark_query, Set_state, Ask, Bytes, Count, Constant, Turn, Refused, Passed, Flushed, Asked, Item, Script, padded, updated, at_start, in_order}
 use Rattle.core_model.specs.Chunking.{marks_of}
 use Rattle.core_model.specs.CoreState.{Owner, Unmade, Spare, Live, has_class, Board, Pool, Core, marks, open_number}

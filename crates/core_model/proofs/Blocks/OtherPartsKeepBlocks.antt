@@ -3,7 +3,7 @@ use Rattle.std.proofs.Common.{◌≡◌, ℕ, suc, ◌+◌, ◌*◌, ◌<◌, �
 use Rattle.std.specs.List.{AllByRecursion}
 use Rattle.std.proofs.lemmas.Bool.{both_ways, cases_Bool, eqb-true, eq-eqb}
 use Rattle.vk_types.specs.Entries.{Entry}
-use Rattle.vk_types.proofs.Lists.{all_map}
+use Rattle.base_lemmas.proofs.Lists.{all_map}
 use Rattle.core_model.specs.Script.{Script, updated}
 use Rattle.core_model.specs.CoreState.{Segment, Running, Message, Owner, Unmade, Home, Returning, Spare, Board, Newest, Core, of_messages, of_running, later, taken_count, open_number}
 use Rattle.core_model.specs.Owners.{finish_owner}

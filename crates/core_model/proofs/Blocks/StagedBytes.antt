@@ -3,10 +3,10 @@ use Rattle.std.proofs.Common.{◌≡◌, ℕ, ◌+◌, ◌*◌, ◌<◌, Bool, t
 use Rattle.std.specs.List.{AllByRecursion}
 use Rattle.std.proofs.lemmas.Bool.{cases_Bool, or_cases, eqb-true}
 use Rattle.dx_types.specs.declared.range.Range.{Range}
-use Rattle.vk_types.specs.Lists.{Pairwise}
+use Rattle.base_lemmas.specs.Lists.{Pairwise}
 use Rattle.vk_types.specs.Memory.{covers}
 use Rattle.vk_types.specs.Effects.{Meaning}
-use Rattle.vk_types.proofs.Lists.{all_front, all_back, all_append, all_map, all_both, pairs_append, pairs_without, pairs_to, pairs_back}
+use Rattle.base_lemmas.proofs.Lists.{all_front, all_back, all_append, all_map, all_both, pairs_append, pairs_without, pairs_to, pairs_back}
 use Rattle.vk_types.proofs.Local.{covered_block, covered_to}
 use Rattle.core_model.specs.Script.{Turn, Script, updated, at_start, in_order}
 use Rattle.core_model.specs.Renaming.{range_on}

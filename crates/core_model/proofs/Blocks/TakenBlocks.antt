@@ -2,7 +2,7 @@
 use Rattle.std.proofs.Common.{◌≡◌, ℕ, suc, ◌+◌, ◌*◌, ◌<◌, ◌≤◌, Bool, true, false, cond, ◌==◌, nat_lt, List, [], ◌∷◌, ◌++◌, length, refl, sym, ap, ◌∙◌, subst, inl, inr, Option, Some, None, slice_get, slice_set, arith}
 use Rattle.std.proofs.lemmas.Bool.{both_ways, cases_Bool, eqb-true, eq-eqb, ltb-true}
 use Rattle.dx_types.specs.declared.range.Range.{Range}
-use Rattle.vk_types.proofs.Lists.{all_map}
+use Rattle.base_lemmas.proofs.Lists.{all_map}
 use Rattle.core_model.specs.Script.{Turn, Script, updated}
 use Rattle.core_model.specs.CoreState.{Segment, Owner, Unmade, Home, Returning, Spare, Live, Retired, Paged, Dropped, has_class, Board, Pool, Newest, Core, later, taken_count, open_number}
 use Rattle.core_model.specs.Readings.{Reading}

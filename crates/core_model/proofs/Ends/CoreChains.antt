@@ -3,7 +3,7 @@ use Rattle.std.proofs.Common.{◌≡◌, ℕ, ◌+◌, ◌≤◌, true, List, []
 use Rattle.vk_types.specs.Covered.{Covered}
 use Rattle.vk_types.specs.Effects.{Meaning}
 use Rattle.vk_types.specs.Entries.{EntriesKeep, run_entries}
-use Rattle.vk_types.specs.Lists.{IsReordering}
+use Rattle.base_lemmas.specs.Lists.{IsReordering}
 use Rattle.vk_types.specs.Memory.{zeros}
 use Rattle.vk_types.specs.RunListing.{IsRunListing}
 use Rattle.core_model.specs.Script.{Script}

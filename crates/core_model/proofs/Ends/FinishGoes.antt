@@ -2,9 +2,9 @@
 use Rattle.std.proofs.Common.{◌≡◌, ℕ, zero, suc, ◌+◌, ◌*◌, ◌/◌, ◌<◌, ◌≤◌, Bool, true, false, cond, ◌==◌, List, [], ◌∷◌, ◌++◌, length, map, refl, sym, ap, ◌∙◌, subst, inl, inr, ◌⊎◌, Option, Some, None, slice_get, slice_set, arith, append_assoc}
 use Rattle.std.specs.List.{AllByRecursion}
 use Rattle.std.proofs.lemmas.Bool.{cases_Bool, eqb-true, eqb-false, eq-eqb}
-use Rattle.vk_types.specs.Lists.{Pairwise, numbers_from}
+use Rattle.base_lemmas.specs.Lists.{Pairwise, numbers_from}
 use Rattle.vk_types.specs.Effects.{Meaning}
-use Rattle.vk_types.proofs.Lists.{all_front, all_back, all_both, all_map}
+use Rattle.base_lemmas.proofs.Lists.{all_front, all_back, all_both, all_map}
 use Rattle.vk_types.specs.declared.message.Placed.{Placed}
 use Rattle.core_model.specs.Script.{Script, updated}
 use Rattle.core_model.specs.CoreState.{Message, Owner, Unmade, Home, Returning, Spare, Live, Retired, Paged, Dropped, has_class, Core, of_messages, of_running, finished_count, marks}

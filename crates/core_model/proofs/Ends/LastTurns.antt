@@ -3,9 +3,9 @@
 use Rattle.std.proofs.Common.{◌≡◌, ℕ, ◌+◌, ◌-◌, ◌≤◌, Bool, true, false, cond, List, [], ◌∷◌, ◌++◌, refl, sym, ap, ◌∙◌, subst, inl, inr, ◌⊎◌, Option, Some, arith, append_assoc}
 use Rattle.std.specs.List.{list_any, AllByRecursion}
 use Rattle.std.proofs.lemmas.Bool.{cases_Bool, or_cases, eqb-true}
-use Rattle.vk_types.specs.Lists.{Pairwise}
+use Rattle.base_lemmas.specs.Lists.{Pairwise}
 use Rattle.vk_types.specs.Effects.{Meaning}
-use Rattle.vk_types.proofs.Lists.{all_front, all_back, all_append, all_map}
+use Rattle.base_lemmas.proofs.Lists.{all_front, all_back, all_append, all_map}
 use Rattle.core_model.specs.Script.{Turn, Refused, Passed, Flushed, Asked, Item, Script}
 use Rattle.core_model.specs.Chunking.{call_of, ends_call, is_entry, entry_count, last_call, joined, cut}
 use Rattle.core_model.specs.CoreState.{Segment, Core, later, last_finished}

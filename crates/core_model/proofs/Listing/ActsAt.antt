@@ -3,7 +3,7 @@ use Rattle.std.proofs.Common.{◌≡◌, ℕ, zero, suc, ◌+◌, ◌<◌, true,
 use Rattle.std.specs.List.{AllByRecursion}
 use Rattle.std.proofs.lemmas.Bool.{both_ways}
 use Rattle.vk_types.specs.declared.op.VkOp.{VkOp}
-use Rattle.vk_types.specs.Lists.{Pairwise}
+use Rattle.base_lemmas.specs.Lists.{Pairwise}
 use Rattle.vk_types.specs.Effects.{Host_write, Device, Host_read, act_touches}
 use Rattle.vk_types.specs.Listing.{is_act, op_touches}
 use Rattle.vk_types.specs.Entries.{Counts, Placed, counted, next, after_host, after_barrier, after_submit, after_fence, first_of, rest_of, entries_from}

@@ -2,13 +2,13 @@
 use Rattle.std.proofs.Common.{◌≡◌, ℕ, suc, ◌-◌, Bool, true, false, cond, nat_lt, nat_le, List, [], ◌∷◌, ◌++◌, map, refl, sym, ap, ◌∙◌, is_some, append_assoc, append-nil}
 use Rattle.std.specs.List.{AllByRecursion}
 use Rattle.vk_types.specs.declared.op.VkOp.{VkOp}
-use Rattle.vk_types.specs.Lists.{Pairwise}
+use Rattle.base_lemmas.specs.Lists.{Pairwise}
 use Rattle.vk_types.specs.Effects.{Host_write, Device, Host_read, is_host}
 use Rattle.vk_types.specs.BarrierCauses.{barrier_before, least_writer, host_barrier, maybe_barrier, barriers_from}
 use Rattle.vk_types.specs.Entries.{Entry, entry_before, Counts, counted, next, after_host, after_barrier, after_submit, after_fence, first_of, rest_of}
 use Rattle.vk_types.specs.Listing.{written_ranges, AreContents}
 use Rattle.vk_types.specs.RunListing.{IsNumbered, IsWhole}
-use Rattle.vk_types.proofs.Lists.{all_map}
+use Rattle.base_lemmas.proofs.Lists.{all_map}
 use Rattle.core_model.specs.RunReads.{ReadsStaging}
 use Rattle.core_model.specs.Listed.{ListState, after_op, after_ops, GoesOn, plain, plain_entries, is_of_device, after_counts, contents_after}
 use Rattle.vk_types.specs.declared.op.VkOp.TheVariants as op

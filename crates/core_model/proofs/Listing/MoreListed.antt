@@ -9,7 +9,7 @@ use Rattle.vk_types.specs.BarrierCauses.{least_conflict, caused, barrier_before,
 use Rattle.vk_types.specs.Entries.{Entry, Counts, next, after_host, after_barrier, start_counts}
 use Rattle.vk_types.specs.Listing.{written_ranges, AreContents}
 use Rattle.vk_types.specs.RunListing.{IsNumbered, IsWhole}
-use Rattle.vk_types.proofs.Lists.{all_append}
+use Rattle.base_lemmas.proofs.Lists.{all_append}
 use Rattle.core_model.specs.AppActs.{device_commands, act_commands}
 use Rattle.core_model.specs.Adding.{epoch_after}
 use Rattle.core_model.specs.Listed.{ListState, nothing_listed, after_op, after_ops, GoesOn, plain_entries, is_of_device, after_count, after_counts, contents_after, IsCounted, IsListed}

@@ -4,7 +4,7 @@ use Rattle.std.proofs.lemmas.Bool.{cases_Bool, eqb-true, lt-ltb, eq-eqb}
 use Rattle.dx_types.specs.declared.range.Range.{Range}
 use Rattle.vk_types.specs.declared.op.VkOp.{VkOp}
 use Rattle.vk_types.specs.declared.op.VkOp.TheVariants as op
-use Rattle.vk_types.specs.Lists.{numbers_from}
+use Rattle.base_lemmas.specs.Lists.{numbers_from}
 use Rattle.vk_types.specs.Memory.{zeros, byte_of}
 use Rattle.vk_types.specs.Effects.{Meaning, Act, Host_write, Device, Host_read, act_effect}
 use Rattle.vk_types.specs.Entries.{run_entries, Counts, next, after_host, after_barrier, after_submit, after_fence, first_of, rest_of, start_counts}

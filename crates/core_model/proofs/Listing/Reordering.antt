@@ -1,6 +1,6 @@
 -- Lists that have the same elements, each as often.
 use Rattle.std.proofs.Common.{◌≡◌, List, [], ◌∷◌, ◌++◌, refl, sym, ap, ◌∙◌, subst, ◌⊎◌, inl, inr, append_assoc}
-use Rattle.vk_types.specs.Lists.{IsReordering}
+use Rattle.base_lemmas.specs.Lists.{IsReordering}
 
 module _ {A : Type 0} where
   -- where an element of two lists together stands

@@ -7,7 +7,7 @@ use Rattle.vk_types.specs.declared.touch.Touch.{Touch}
 use Rattle.vk_types.specs.declared.command.Command.{Command}
 use Rattle.vk_types.specs.declared.op.VkOp.{VkOp}
 use Rattle.dx_types.specs.declared.range.Range.{Range}
-use Rattle.vk_types.specs.Lists.{Pairwise, all_pass}
+use Rattle.base_lemmas.specs.Lists.{Pairwise, all_pass}
 use Rattle.vk_types.specs.Memory.{meets}
 use Rattle.vk_types.specs.Hazards.{touches, same_stage, has_write, is_dispatch, touches_conflict, lists_conflict, host_read_touch, write_access}
 use Rattle.vk_types.specs.Effects.{act_touches}
@@ -17,7 +17,7 @@ use Rattle.vk_types.specs.Covered.{writes_named, makes_host_visible, op_barrier,
 use Rattle.vk_types.specs.BarrierCauses.{all_device, host_reads}
 use Rattle.vk_types.specs.Entries.{Placed, entry_before, entries_conflict, EntriesCovered, start_counts, placed_entries}
 use Rattle.vk_types.specs.RunListing.{IsWhole, IsRunListing}
-use Rattle.vk_types.proofs.Lists.{all_map, all_both}
+use Rattle.base_lemmas.proofs.Lists.{all_map, all_both}
 use Rattle.vk_types.proofs.Order.{no_host_stage}
 use Rattle.barrier_track.proofs.Covers.{commands_covered}
 use Rattle.core_model.specs.RunReads.{ReadsStaging, listed_entries}

@@ -5,7 +5,7 @@ use Rattle.std.proofs.lemmas.Bool.{lt-ltb, lt-leb, le-ltb, le-leb}
 use Rattle.vk_types.specs.declared.command.Command.{Command}
 use Rattle.vk_types.specs.declared.op.Barrier.{Barrier}
 use Rattle.vk_types.specs.declared.op.VkOp.{VkOp}
-use Rattle.vk_types.specs.Lists.{Pairwise}
+use Rattle.base_lemmas.specs.Lists.{Pairwise}
 use Rattle.vk_types.specs.Hazards.{read_write_access, write_access}
 use Rattle.vk_types.specs.Effects.{Host_write, Device, Host_read, is_host}
 use Rattle.vk_types.specs.Listing.{first_submit}
@@ -13,7 +13,7 @@ use Rattle.vk_types.specs.Before.{before, side, On_host, On_device}
 use Rattle.vk_types.specs.BarrierCauses.{source_mask, all_device, host_reads, least_conflict, caused, since_barrier, least_writer, host_barrier, maybe_barrier, barriers_from}
 use Rattle.vk_types.specs.Entries.{Counts, Placed, entry_before, counted, next, after_host, after_barrier, after_submit, after_fence, first_of, rest_of, entries_from, start_counts}
 use Rattle.vk_types.specs.RunListing.{IsNumbered, IsWhole, IsRunListing, SameOrder}
-use Rattle.vk_types.proofs.Lists.{all_map}
+use Rattle.base_lemmas.proofs.Lists.{all_map}
 use Rattle.vk_types.proofs.Order.{ordered_by, ordered_pair, IsNamed, named_last}
 use Rattle.vk_types.proofs.Bridge.{SameAfter}
 use Rattle.core_model.proofs.Listing.FromCommand.{walk}

@@ -1,9 +1,9 @@
 -- A copy of a staging block is there where no later chunk that the device has needs the block, and so where none binds it.
 use Rattle.std.proofs.Common.{◌≡◌, ℕ, true, false, List, ◌∷◌, ◌++◌, sym, ap, ◌∙◌, subst, Some, append_assoc}
 use Rattle.std.specs.List.{AllByRecursion}
-use Rattle.vk_types.specs.Lists.{Pairwise}
+use Rattle.base_lemmas.specs.Lists.{Pairwise}
 use Rattle.vk_types.specs.Effects.{Meaning}
-use Rattle.vk_types.proofs.Lists.{all_front, all_back, all_map, all_both, pairs_back}
+use Rattle.base_lemmas.proofs.Lists.{all_front, all_back, all_map, all_both, pairs_back}
 use Rattle.core_model.specs.Script.{Script}
 use Rattle.core_model.specs.CoreState.{Segment, Message, flat, Core, of_messages, of_running, waiting, segments}
 use Rattle.core_model.specs.Readings.{Reading}

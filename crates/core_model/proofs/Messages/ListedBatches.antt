@@ -6,7 +6,7 @@ use Rattle.vk_types.specs.declared.op.VkOp.{VkOp}
 use Rattle.vk_types.specs.declared.op.VkOp.TheVariants as op
 use Rattle.vk_types.specs.Effects.{Meaning}
 use Rattle.vk_types.specs.BarrierCauses.{least_writer, host_barrier}
-use Rattle.vk_types.proofs.Lists.{all_append}
+use Rattle.base_lemmas.proofs.Lists.{all_append}
 use Rattle.core_model.specs.Script.{Play, Create, Discard, No_overwrite, Stage, Command, Destroy, Create_shader, Mark_query, Set_state, Item, Script}
 use Rattle.core_model.specs.CoreState.{Segment, Core, later, open_number, taken_count, handed_count}
 use Rattle.core_model.specs.Readings.{Reading}

@@ -8,7 +8,7 @@ use Rattle.vk_types.specs.declared.command.Command as c
 use Rattle.vk_types.specs.Memory.{range}
 use Rattle.vk_types.specs.Effects.{Meaning, Act, Host_write, Device}
 use Rattle.vk_types.specs.Entries.{Entry}
-use Rattle.vk_types.proofs.Lists.{all_append}
+use Rattle.base_lemmas.proofs.Lists.{all_append}
 use Rattle.core_model.specs.Script.{Play, Create, Discard, No_overwrite, Stage, Command, Destroy, Create_shader, Mark_query, Set_state, Turn, Script, updated, padded}
 use Rattle.core_model.specs.Renaming.{block_of}
 use Rattle.core_model.specs.CoreState.{Core}

@@ -7,11 +7,11 @@ use Rattle.vk_types.specs.declared.message.Batch.{Batch}
 use Rattle.vk_types.specs.declared.message.Completion.{Completion}
 use Rattle.vk_types.specs.declared.message.Post.{Post}
 use Rattle.vk_types.specs.declared.op.VkOp.{VkOp}
-use Rattle.vk_types.specs.Lists.{numbers_from}
+use Rattle.base_lemmas.specs.Lists.{numbers_from}
 use Rattle.vk_types.specs.Memory.{zeros}
 use Rattle.vk_types.specs.Effects.{Meaning}
 use Rattle.vk_types.specs.Entries.{Entry, run_entries}
-use Rattle.vk_types.proofs.Lists.{all_back, all_map}
+use Rattle.base_lemmas.proofs.Lists.{all_back, all_map}
 use Rattle.core_model.specs.Script.{Turn, Script, at_start, in_order}
 use Rattle.core_model.specs.Chunking.{chunks, cut, joined, after_chunk}
 use Rattle.core_model.specs.CoreState.{Segment, Message, entries, flat, Core, start, somes, of_messages, of_running}

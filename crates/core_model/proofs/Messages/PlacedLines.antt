@@ -8,7 +8,7 @@ use Rattle.dx_types.specs.declared.range.Range.{Range}
 use Rattle.vk_types.specs.declared.message.Placed.{Placed}
 use Rattle.vk_types.specs.Memory.{range}
 use Rattle.vk_types.specs.Effects.{Meaning}
-use Rattle.vk_types.proofs.Lists.{all_map, all_back, all_append}
+use Rattle.base_lemmas.proofs.Lists.{all_map, all_back, all_append}
 use Rattle.core_model.specs.Script.{Turn, Item, Script}
 use Rattle.core_model.specs.CoreState.{Page, Segment, Owner, Unmade, Home, Returning, Spare, Live, Retired, Paged, Dropped, Newest, Pool, Core, open_number, finished_count}
 use Rattle.core_model.specs.Readings.{Reading}

@@ -5,9 +5,9 @@ use Rattle.std.proofs.lemmas.Bool.{cases_Bool, or_cases, eqb-true, eq-eqb, ltb-t
 use Rattle.std.proofs.lemmas.List.Folds.{list_any-append}
 use Rattle.dx_types.specs.declared.range.Range.{Range}
 use Rattle.vk_types.specs.declared.message.Placed.{Placed}
-use Rattle.vk_types.specs.Lists.{Pairwise}
+use Rattle.base_lemmas.specs.Lists.{Pairwise}
 use Rattle.vk_types.specs.Memory.{meets, range}
-use Rattle.vk_types.proofs.Lists.{all_append, all_map, all_both, pairs_append}
+use Rattle.base_lemmas.proofs.Lists.{all_append, all_map, all_both, pairs_append}
 use Rattle.core_model.specs.CoreState.{Page, Newest}
 use Rattle.core_model.specs.OtherParts.{is_among}
 use Rattle.core_model.specs.Succession.{MayTake, TakesLawfully, staged_range_of, staged_ranges, once}

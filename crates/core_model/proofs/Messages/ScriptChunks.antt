@@ -1,6 +1,6 @@
 -- The chunks that a script is cut into, by their numbers: the turns of each, of all up to one, and the last call of those.
 use Rattle.std.proofs.Common.{◌≡◌, suc, ◌+◌, List, [], ◌∷◌, ◌++◌, map, length, refl, sym, ap, ◌∙◌, Option, Some, slice_get, arith, append_assoc, length-append}
-use Rattle.vk_types.specs.Lists.{numbers_from}
+use Rattle.base_lemmas.specs.Lists.{numbers_from}
 use Rattle.core_model.specs.Script.{Turn, Script}
 use Rattle.core_model.specs.Chunking.{chunks, turns_or_none, chunk_turns, last_call, upto, joined}
 use Rattle.core_model.specs.CoreState.{Segment, last_finished}

@@ -6,7 +6,7 @@ use Rattle.dx_types.specs.declared.range.Range.{Range}
 use Rattle.vk_types.specs.Memory.{range, zeros, or_zero}
 use Rattle.vk_types.specs.Effects.{Meaning}
 use Rattle.vk_types.specs.Entries.{run_entries}
-use Rattle.vk_types.proofs.Lists.{all_append, all_map}
+use Rattle.base_lemmas.proofs.Lists.{all_append, all_map}
 use Rattle.core_model.specs.Script.{Play, Create, Discard, No_overwrite, Stage, Command, Destroy, Create_shader, Mark_query, Set_state, Turn, Item, Script, updated, at_start, in_order}
 use Rattle.core_model.specs.Chunking.{joined}
 use Rattle.core_model.specs.Renaming.{BlockMap, block_of}

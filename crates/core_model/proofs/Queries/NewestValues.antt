@@ -4,7 +4,7 @@ use Rattle.std.specs.List.{AllByRecursion}
 use Rattle.std.proofs.lemmas.Bool.{both_ways, cases_Bool, leb-true, le-leb, lt-ltb, ltb-true}
 use Rattle.vk_types.specs.declared.message.QueryMark.{QueryMark}
 use Rattle.vk_types.specs.declared.message.QueryValue.{QueryValue}
-use Rattle.vk_types.specs.Lists.{Pairwise}
+use Rattle.base_lemmas.specs.Lists.{Pairwise}
 use Rattle.core_model.specs.TakingPosts.{newest_values}
 use Rattle.core_model.specs.OtherParts.{last_begin, sum_from, value_at, values_between}
 use Rattle.core_model.specs.Queries.{newest_of, ends_by}

@@ -2,7 +2,7 @@
 use Rattle.std.proofs.Common.{◌≡◌, ℕ, suc, ◌+◌, ◌≤◌, Bool, true, false, List, [], ◌∷◌, ◌++◌, refl, sym, ap, ◌∙◌, subst, ◌⊎◌, inl, inr, Option, Some, None, arith, append-nil}
 use Rattle.std.proofs.lemmas.Bool.{cases_lt}
 use Rattle.vk_types.specs.Effects.{Meaning}
-use Rattle.vk_types.specs.Lists.{numbers_from}
+use Rattle.base_lemmas.specs.Lists.{numbers_from}
 use Rattle.core_model.specs.Script.{Create, Discard, No_overwrite, Stage, Command, Destroy, Create_shader, Mark_query, Set_state, Count, Turn, Refused, Passed, Flushed, Asked, Item, Script, at_start, in_order}
 use Rattle.core_model.specs.Chunking.{is_due, joined}
 use Rattle.core_model.specs.CoreState.{Segment, Core, segments, later, listed, last_finished, Value_said, End_said}

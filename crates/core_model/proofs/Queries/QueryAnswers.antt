@@ -3,9 +3,9 @@ use Rattle.std.proofs.Common.{◌≡◌, ℕ, ◌+◌, ◌<◌, ◌≤◌, Bool,
 use Rattle.std.specs.List.{AllByRecursion}
 use Rattle.std.proofs.lemmas.Bool.{cases_Bool, le-leb}
 use Rattle.vk_types.specs.declared.message.QueryMark.{QueryMark}
-use Rattle.vk_types.specs.Lists.{Pairwise}
+use Rattle.base_lemmas.specs.Lists.{Pairwise}
 use Rattle.vk_types.specs.Effects.{Meaning}
-use Rattle.vk_types.proofs.Lists.{all_front, all_back, all_append, all_map, all_both}
+use Rattle.base_lemmas.proofs.Lists.{all_front, all_back, all_append, all_map, all_both}
 use Rattle.core_model.specs.Script.{Turn, Script, at_start, in_order}
 use Rattle.core_model.specs.Chunking.{call_of, chunks, cut, last_call, joined}
 use Rattle.core_model.specs.CoreState.{Segment, Message, Core, of_messages, later, last_finished, done}

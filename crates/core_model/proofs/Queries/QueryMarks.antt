@@ -2,9 +2,9 @@
 use Rattle.std.proofs.Common.{◌≡◌, ℕ, suc, ◌+◌, ◌<◌, ◌≤◌, List, [], ◌∷◌, ◌++◌, refl, sym, ap, ◌∙◌, subst, arith, append_assoc}
 use Rattle.std.specs.List.{AllByRecursion}
 use Rattle.vk_types.specs.declared.message.QueryMark.{QueryMark}
-use Rattle.vk_types.specs.Lists.{Pairwise}
+use Rattle.base_lemmas.specs.Lists.{Pairwise}
 use Rattle.vk_types.specs.Effects.{Act, Host_write, Device, Host_read}
-use Rattle.vk_types.proofs.Lists.{all_append, all_map, pairs_append}
+use Rattle.base_lemmas.proofs.Lists.{all_append, all_map, pairs_append}
 use Rattle.core_model.specs.Script.{Create, Discard, No_overwrite, Stage, Command, Destroy, Create_shader, Mark_query, Set_state, Turn, Refused, Passed, Flushed, Asked, Item}
 use Rattle.core_model.specs.Chunking.{call_of, joined}
 use Rattle.core_model.specs.CoreState.{Segment, entries, flat}

@@ -2,11 +2,11 @@
 use Rattle.std.proofs.Common.{◌≡◌, ℕ, zero, suc, ◌+◌, ◌≤◌, false, cond, ◌==◌, List, [], ◌∷◌, ◌++◌, refl, sym, ap, ◌∙◌, subst, inl, inr, arith, append_assoc, append-nil}
 use Rattle.std.specs.List.{AllByRecursion}
 use Rattle.std.proofs.lemmas.Bool.{cases_Bool, eqb-true}
-use Rattle.vk_types.specs.Lists.{Sublist}
+use Rattle.base_lemmas.specs.Lists.{Sublist}
 use Rattle.vk_types.specs.Memory.{Memory}
 use Rattle.vk_types.specs.Effects.{Meaning, Act, Host_write, Device, Host_read, invocations}
 use Rattle.vk_types.specs.Entries.{Entry}
-use Rattle.vk_types.proofs.Lists.{all_front, all_back}
+use Rattle.base_lemmas.proofs.Lists.{all_front, all_back}
 use Rattle.core_model.specs.Script.{Script}
 use Rattle.core_model.specs.Chunking.{last_call, joined}
 use Rattle.core_model.specs.CoreState.{Segment, entries, flat, Running, Message, Core, start, empty_segment, of_messages, of_running, rests, waiting, segments, later, on_device, listed, last_finished}

@@ -5,13 +5,13 @@ use Rattle.dx_types.specs.declared.range.Range.{Range}
 use Rattle.vk_types.specs.declared.message.QueryMark.{QueryMark}
 use Rattle.vk_types.specs.declared.command.Work.TheVariants as work
 use Rattle.vk_types.specs.declared.op.VkOp.TheVariants as op
-use Rattle.vk_types.specs.Lists.{numbers_from}
+use Rattle.base_lemmas.specs.Lists.{numbers_from}
 use Rattle.vk_types.specs.Memory.{range}
 use Rattle.vk_types.specs.Effects.{Act, Host_write, Device, Host_read}
 use Rattle.vk_types.specs.Entries.{Entry}
 use Rattle.vk_types.specs.declared.command.Command as c
 use Rattle.vk_types.specs.declared.op.Barrier.{Barrier}
-use Rattle.vk_types.proofs.Lists.{all_front, all_back, all_append}
+use Rattle.base_lemmas.proofs.Lists.{all_front, all_back, all_append}
 use Rattle.core_model.specs.Script.{Play, Create, Discard, No_overwrite, Stage, Command, Destroy, Create_shader, Mark_query, Set_state, Ask, Bytes, Count, Constant, Turn, Refused, Passed, Flushed, Asked, Item, Script, padded}
 use Rattle.core_model.specs.CoreState.{entries, Core, later, taken_count, open_number}
 use Rattle.core_model.specs.Readings.{Reading}

@@ -4,11 +4,11 @@ use Rattle.std.proofs.Common.{◌≡◌, ℕ, zero, suc, ◌+◌, ◌<◌, ◌�
 use Rattle.std.specs.List.{AllByRecursion}
 use Rattle.std.proofs.lemmas.Bool.{cases_Bool, eqb-true}
 use Rattle.vk_types.specs.declared.command.Command as c
-use Rattle.vk_types.specs.Lists.{Pairwise, IsReordering, numbers_from}
+use Rattle.base_lemmas.specs.Lists.{Pairwise, IsReordering, numbers_from}
 use Rattle.vk_types.specs.Memory.{Memory}
 use Rattle.vk_types.specs.Effects.{Meaning, Act, Host_write, Device, Host_read, invocations}
 use Rattle.vk_types.specs.Entries.{Entry}
-use Rattle.vk_types.proofs.Lists.{all_front, all_back, all_map, all_both, all_across, all_reordered, pairs_with}
+use Rattle.base_lemmas.proofs.Lists.{all_front, all_back, all_map, all_both, all_across, all_reordered, pairs_with}
 use Rattle.core_model.specs.Script.{Script}
 use Rattle.core_model.specs.Chunking.{joined}
 use Rattle.core_model.specs.CoreState.{Segment, flat, Core, of_running, rests, waiting, segments, later, on_device}

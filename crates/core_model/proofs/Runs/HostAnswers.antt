@@ -4,12 +4,12 @@ use Rattle.std.specs.List.{AllByRecursion}
 use Rattle.dx_types.specs.declared.range.Range.{Range}
 use Rattle.vk_types.specs.declared.op.VkOp.{VkOp}
 use Rattle.vk_types.specs.declared.op.VkOp.TheVariants as op
-use Rattle.vk_types.specs.Lists.{numbers_from}
+use Rattle.base_lemmas.specs.Lists.{numbers_from}
 use Rattle.vk_types.specs.Memory.{range}
 use Rattle.vk_types.specs.Effects.{Meaning}
 use Rattle.vk_types.specs.Listing.{acts}
 use Rattle.vk_types.specs.Allowed.{outcome}
-use Rattle.vk_types.proofs.Lists.{all_back, all_map}
+use Rattle.base_lemmas.proofs.Lists.{all_back, all_map}
 use Rattle.vk_types.proofs.Law.{law_of_covered}
 use Rattle.core_model.specs.Script.{Ask, Bytes, Turn, Asked, Script}
 use Rattle.core_model.specs.CoreState.{Core, start, Bytes_said}

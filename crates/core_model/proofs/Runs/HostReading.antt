@@ -7,7 +7,7 @@ use Rattle.vk_types.specs.declared.op.VkOp.TheVariants as op
 use Rattle.vk_types.specs.Memory.{range}
 use Rattle.vk_types.specs.Effects.{Meaning}
 use Rattle.vk_types.specs.BarrierCauses.{least_writer, host_barrier}
-use Rattle.vk_types.proofs.Lists.{all_append, all_map}
+use Rattle.base_lemmas.proofs.Lists.{all_append, all_map}
 use Rattle.core_model.specs.Script.{Play, Create, Discard, No_overwrite, Stage, Command, Destroy, Create_shader, Mark_query, Set_state, Script, padded}
 use Rattle.core_model.specs.CoreState.{Core, Said, Bytes_said, Value_said, Still_said, Refused_said, End_said, taken_count, open_number}
 use Rattle.core_model.specs.Readings.{Reading}

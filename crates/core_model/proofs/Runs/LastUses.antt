@@ -4,7 +4,7 @@ use Rattle.std.specs.List.{AllByRecursion}
 use Rattle.std.proofs.lemmas.Bool.{cases_Bool, or_cases, leb-true, le-leb}
 use Rattle.std.proofs.lemmas.List.Folds.{list_any-append}
 use Rattle.vk_types.specs.Effects.{Meaning}
-use Rattle.vk_types.proofs.Lists.{all_back, all_append}
+use Rattle.base_lemmas.proofs.Lists.{all_back, all_append}
 use Rattle.core_model.specs.Script.{Ask, Turn, Asked, Script}
 use Rattle.core_model.specs.Chunking.{call_of, ends_call, entry_count, in_list, is_full, is_due, last_call, joined}
 use Rattle.core_model.specs.CoreState.{Segment, Core, later, last_finished, done}

@@ -4,12 +4,12 @@ use Rattle.std.specs.List.{AllByRecursion}
 use Rattle.dx_types.specs.declared.range.Range.{Range}
 use Rattle.vk_types.specs.declared.op.VkOp.{VkOp}
 use Rattle.vk_types.specs.declared.op.VkOp.TheVariants as op
-use Rattle.vk_types.specs.Lists.{numbers_from}
+use Rattle.base_lemmas.specs.Lists.{numbers_from}
 use Rattle.vk_types.specs.Memory.{zeros, range, or_zero}
 use Rattle.vk_types.specs.Effects.{Meaning, Host_write, Device, Host_read}
 use Rattle.vk_types.specs.Entries.{Entry, run_entries, Counts, counted, next, after_host, after_barrier, after_submit, after_fence, first_of, rest_of, start_counts}
 use Rattle.vk_types.specs.Listing.{written_ranges}
-use Rattle.vk_types.proofs.Lists.{all_append, all_map, all_back}
+use Rattle.base_lemmas.proofs.Lists.{all_append, all_map, all_back}
 use Rattle.core_model.specs.Script.{Bytes, Count, Constant, Turn, Refused, Passed, Flushed, Asked, Item, Script, at_start, in_order}
 use Rattle.core_model.specs.Chunking.{is_due}
 use Rattle.core_model.specs.Renaming.{block_of, range_on}

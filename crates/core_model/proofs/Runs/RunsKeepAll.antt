@@ -3,7 +3,7 @@ use Rattle.std.proofs.Common.{◌≡◌, ℕ, false, List, [], ◌∷◌, refl, 
 use Rattle.std.specs.List.{AllByRecursion}
 use Rattle.std.proofs.lemmas.Bool.{cases_Bool, eqb-true}
 use Rattle.vk_types.specs.Effects.{Meaning}
-use Rattle.vk_types.proofs.Lists.{all_back}
+use Rattle.base_lemmas.proofs.Lists.{all_back}
 use Rattle.core_model.specs.Script.{Ask, Bytes, Count, Constant, Turn, Refused, Passed, Flushed, Asked, Item, Script}
 use Rattle.core_model.specs.Chunking.{is_due}
 use Rattle.core_model.specs.CoreState.{Owner, Unmade, Home, Returning, Spare, Live, Retired, Paged, Dropped, Page, Pool, Core, start, Said, Bytes_said, Value_said, Still_said, Refused_said, End_said}

@@ -4,7 +4,7 @@ use Rattle.std.proofs.Common.{◌≡◌, ℕ, zero, suc, ◌+◌, ◌<◌, ◌�
 use Rattle.std.specs.List.{AllByRecursion}
 use Rattle.vk_types.specs.Effects.{Meaning, act_effect}
 use Rattle.vk_types.specs.Entries.{run_entries}
-use Rattle.vk_types.proofs.Lists.{all_append, all_map, pairs_append}
+use Rattle.base_lemmas.proofs.Lists.{all_append, all_map, pairs_append}
 use Rattle.core_model.specs.Script.{Script}
 use Rattle.core_model.specs.Chunking.{is_due}
 use Rattle.core_model.specs.CoreState.{Page, Segment, Running, Message, Owner, Unmade, Home, Returning, Spare, Live, Retired, Paged, Dropped, Board, Pool, Core, start, of_messages, of_running, later, taken_count, finished_count, open_number}

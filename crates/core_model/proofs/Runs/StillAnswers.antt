@@ -3,7 +3,7 @@ use Rattle.std.proofs.Common.{◌≡◌, ℕ, zero, suc, ◌+◌, ◌-◌, ◌<�
 use Rattle.std.specs.List.{AllByRecursion}
 use Rattle.std.proofs.lemmas.Bool.{cases_Bool, cases_lt, le-leb, leb-true}
 use Rattle.vk_types.specs.Effects.{Meaning}
-use Rattle.vk_types.proofs.Lists.{all_front, all_back, all_append, all_map}
+use Rattle.base_lemmas.proofs.Lists.{all_front, all_back, all_append, all_map}
 use Rattle.core_model.specs.Script.{Ask, Bytes, Count, Constant, Turn, Refused, Passed, Flushed, Asked, Item, Script}
 use Rattle.core_model.specs.Chunking.{call_of, ends_call, last_call, joined, chunks, cut, is_due, upto}
 use Rattle.core_model.specs.CoreState.{Segment, Core, start, later, last_finished, done, taken_count, handed_count, Said, Bytes_said, Value_said, Still_said, Refused_said, End_said}

@@ -7,7 +7,7 @@ use Rattle.dx_types.specs.declared.range.Range.{Range}
 use Rattle.vk_types.specs.Memory.{or_zero}
 use Rattle.vk_types.specs.Effects.{Meaning}
 use Rattle.vk_types.specs.Entries.{Entry}
-use Rattle.vk_types.proofs.Lists.{all_append, all_map, all_both}
+use Rattle.base_lemmas.proofs.Lists.{all_append, all_map, all_both}
 use Rattle.core_model.specs.Script.{Turn, Script, at_start, in_order}
 use Rattle.core_model.specs.Chunking.{is_entry, entry_count, joined}
 use Rattle.core_model.specs.Renaming.{BlockMap, block_of, range_on}

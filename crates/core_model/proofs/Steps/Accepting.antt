@@ -3,10 +3,10 @@
 use Rattle.std.proofs.Common.{◌≡◌, ℕ, suc, ◌<◌, ◌≤◌, true, false, cond, nat_le, nat_lt, List, [], ◌∷◌, ◌++◌, length, refl, sym, ap, ◌∙◌, subst, inl, inr, arith, append_assoc, append-nil, length-append}
 use Rattle.std.specs.List.{AllByRecursion}
 use Rattle.std.proofs.lemmas.Bool.{both_ways, cases_Bool, lt-leb}
-use Rattle.vk_types.specs.Lists.{Pairwise, IsReordering, Sublist}
+use Rattle.base_lemmas.specs.Lists.{Pairwise, IsReordering, Sublist}
 use Rattle.vk_types.specs.Effects.{Meaning, Act, Host_write, Device, Host_read, is_host, act_effect}
 use Rattle.vk_types.specs.Entries.{Entry, entry_before, entries_conflict, EntriesKeep, run_entries}
-use Rattle.vk_types.proofs.Lists.{all_front, all_back, all_append, all_map, all_both, all_sublist, all_across, all_reordered, pairs_front, pairs_back, pairs_append, sublist_self}
+use Rattle.base_lemmas.proofs.Lists.{all_front, all_back, all_append, all_map, all_both, all_sublist, all_across, all_reordered, pairs_front, pairs_back, pairs_append, sublist_self}
 use Rattle.vk_types.proofs.Reorder.{run_steps, all_to_front, Commute}
 use Rattle.core_model.specs.Script.{Script}
 use Rattle.core_model.specs.CoreState.{Segment, entries, flat, Running, Core, of_messages, of_running, rests, waiting, segments, on_device, listed, finished_count}

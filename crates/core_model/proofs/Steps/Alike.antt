@@ -11,7 +11,7 @@ use Rattle.vk_types.specs.declared.command.Groups.TheVariants as groups
 use Rattle.vk_types.specs.declared.command.Work.{Work}
 use Rattle.vk_types.specs.declared.command.Work.TheVariants as work
 use Rattle.vk_types.specs.declared.command.Cond.{Cond}
-use Rattle.vk_types.specs.Lists.{numbers_from}
+use Rattle.base_lemmas.specs.Lists.{numbers_from}
 use Rattle.vk_types.specs.Memory.{Memory, covers, put, byte_of, word_of, byte_in, byte_in_words, number_at, or_zero}
 use Rattle.vk_types.specs.Hazards.{groups_touches, slot_touch, work_touches, cond_touches, is_touched}
 use Rattle.vk_types.specs.Effects.{Meaning, words_in, is_constant, is_srv, is_uav, slot_words, slots_words, group_counts, put_slot, put_slots, work_effect, work_count, is_skipped}

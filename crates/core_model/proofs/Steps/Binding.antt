@@ -7,7 +7,7 @@ use Rattle.dx_types.specs.declared.range.Range.{Range}
 use Rattle.vk_types.specs.Memory.{zeros, range, or_zero}
 use Rattle.vk_types.specs.Effects.{Meaning}
 use Rattle.vk_types.specs.Entries.{EntriesCovered, run_entries}
-use Rattle.vk_types.proofs.Lists.{all_map}
+use Rattle.base_lemmas.proofs.Lists.{all_map}
 use Rattle.core_model.specs.Script.{Set_state, Turn, Item, Script, at_start, in_order}
 use Rattle.core_model.specs.Chunking.{is_due, cut}
 use Rattle.core_model.specs.Renaming.{BlockMap, block_of, range_on}

@@ -2,11 +2,11 @@
 use Rattle.std.proofs.Common.{◌≡◌, ℕ, suc, ◌+◌, ◌≤◌, false, List, [], ◌∷◌, ◌++◌, length, sym, ap, ◌∙◌, subst, arith}
 use Rattle.std.specs.List.{AllByRecursion}
 use Rattle.vk_types.specs.declared.command.Command as c
-use Rattle.vk_types.specs.Lists.{IsReordering, Sublist}
+use Rattle.base_lemmas.specs.Lists.{IsReordering, Sublist}
 use Rattle.vk_types.specs.Memory.{zeros}
 use Rattle.vk_types.specs.Effects.{Meaning}
 use Rattle.vk_types.specs.Entries.{Entry, EntriesCovered, EntriesKeep, run_entries}
-use Rattle.vk_types.proofs.Lists.{all_map}
+use Rattle.base_lemmas.proofs.Lists.{all_map}
 use Rattle.core_model.specs.Script.{Script, at_start, in_order}
 use Rattle.core_model.specs.Chunking.{cut}
 use Rattle.core_model.specs.CoreState.{Segment, flat, Running, Message, Owner, Board, Core, of_messages, of_running, rests, segments, later, on_device, listed, taken_count, finished_count, handed_count, open_number}

@@ -9,7 +9,7 @@ use Rattle.vk_types.specs.Hazards.{touches, conflict, is_touched, lists_conflict
 use Rattle.vk_types.specs.Effects.{Meaning, Device, act_touches, act_effect, is_host}
 use Rattle.vk_types.specs.BarrierCauses.{lesser, least_of, least_conflict, caused, since_barrier}
 use Rattle.vk_types.specs.Entries.{Entry, entry_before, entries_conflict, EntriesCovered, run_entries}
-use Rattle.vk_types.proofs.Lists.{all_append, all_map, pairs_append}
+use Rattle.base_lemmas.proofs.Lists.{all_append, all_map, pairs_append}
 use Rattle.core_model.specs.Script.{Script}
 use Rattle.core_model.specs.CoreState.{Segment, entries, flat, Core, later, taken_count, finished_count, open_number}
 use Rattle.core_model.specs.Adding.{has_block, epoch_after, with_command}

@@ -4,12 +4,12 @@ use Rattle.std.proofs.Common.{◌≡◌, ℕ, suc, Bool, true, false, cond, not,
 use Rattle.std.specs.List.{list_any, AllByRecursion}
 use Rattle.std.proofs.lemmas.Bool.{and_parts, cases_Bool, eq-eqb}
 use Rattle.vk_types.specs.declared.touch.Touch.{Touch}
-use Rattle.vk_types.specs.Lists.{IsReordering, Sublist}
+use Rattle.base_lemmas.specs.Lists.{IsReordering, Sublist}
 use Rattle.vk_types.specs.Memory.{Memory, zeros, covers}
 use Rattle.vk_types.specs.Hazards.{has_write, is_touched, is_written}
 use Rattle.vk_types.specs.Effects.{Meaning, Act, Host_write, Device, Host_read, act_touches, act_effect, is_host}
 use Rattle.vk_types.specs.Entries.{Entry, EntriesKeep, run_entries}
-use Rattle.vk_types.proofs.Lists.{all_front, all_back, all_append, all_map, all_both}
+use Rattle.base_lemmas.proofs.Lists.{all_front, all_back, all_append, all_map, all_both}
 use Rattle.vk_types.proofs.Local.{covered_block}
 use Rattle.vk_types.proofs.Acts.{act_local}
 use Rattle.core_model.specs.Script.{Script}

@@ -9,7 +9,7 @@ use Rattle.vk_types.specs.declared.op.VkOp.{VkOp}
 use Rattle.vk_types.specs.Memory.{range, number_at}
 use Rattle.vk_types.specs.Effects.{Meaning, Host_write, act_touches, is_host}
 use Rattle.vk_types.specs.Entries.{Entry}
-use Rattle.vk_types.proofs.Lists.{all_front, all_back, all_append, all_map, all_both}
+use Rattle.base_lemmas.proofs.Lists.{all_front, all_back, all_append, all_map, all_both}
 use Rattle.vk_types.proofs.Local.{covered}
 use Rattle.core_model.specs.Script.{Create, Turn, Item, Script, InOrder, padded, updated, at_start, turn_in_order, in_order}
 use Rattle.core_model.specs.Chunking.{is_due}

@@ -1,7 +1,7 @@
 -- A chunk's post is made, and the blocks that it retired are on their way; a block comes home.
 use Rattle.std.proofs.Common.{◌≡◌, ℕ, suc, ◌+◌, ◌≤◌, Bool, true, false, cond, ◌==◌, [], ◌∷◌, ◌++◌, length, refl, sym, ap, ◌∙◌, subst, inl, inr, arith, append_assoc}
 use Rattle.std.proofs.lemmas.Bool.{cases_Bool, eqb-true}
-use Rattle.vk_types.specs.Lists.{IsReordering}
+use Rattle.base_lemmas.specs.Lists.{IsReordering}
 use Rattle.vk_types.specs.Effects.{Meaning}
 use Rattle.core_model.specs.Script.{Script, updated}
 use Rattle.core_model.specs.CoreState.{flat, Owner, Unmade, Home, Returning, Spare, Live, Retired, Paged, Dropped, has_class, Core, of_messages, of_running, rests, finished_count}

@@ -8,7 +8,7 @@ use Rattle.vk_types.specs.declared.op.VkOp.{VkOp}
 use Rattle.vk_types.specs.Memory.{zeros, range, number_at}
 use Rattle.vk_types.specs.Effects.{Meaning}
 use Rattle.vk_types.specs.Entries.{Entry, run_entries}
-use Rattle.vk_types.proofs.Lists.{all_front, all_back, all_map}
+use Rattle.base_lemmas.proofs.Lists.{all_front, all_back, all_map}
 use Rattle.vk_types.proofs.Local.{covered}
 use Rattle.core_model.specs.Script.{Turn, Script, InOrder, updated, at_start, in_order}
 use Rattle.core_model.specs.CoreState.{Segment, Owner, Unmade, Home, Returning, Spare, Live, Retired, Paged, Dropped, Board, Pool, Core, later, taken_count, finished_count, open_number}

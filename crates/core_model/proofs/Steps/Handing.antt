@@ -5,7 +5,7 @@ use Rattle.std.proofs.lemmas.Bool.{ltb-true}
 use Rattle.vk_types.specs.Memory.{zeros}
 use Rattle.vk_types.specs.Effects.{Meaning}
 use Rattle.vk_types.specs.Entries.{EntriesCovered, run_entries}
-use Rattle.vk_types.proofs.Lists.{all_append, all_map, all_true, pairs_append}
+use Rattle.base_lemmas.proofs.Lists.{all_append, all_map, all_true, pairs_append}
 use Rattle.core_model.specs.Script.{Turn, Script, at_start, in_order}
 use Rattle.core_model.specs.Chunking.{is_due, cut}
 use Rattle.core_model.specs.CoreState.{empty_segment, Segment, flat, Core, of_messages, of_running, segments, later, listed, taken_count, finished_count, handed_count, open_number}

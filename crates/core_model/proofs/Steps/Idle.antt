@@ -7,7 +7,7 @@ use Rattle.vk_types.specs.Memory.{covers}
 use Rattle.vk_types.specs.Hazards.{is_touched}
 use Rattle.vk_types.specs.Effects.{Meaning, Act, Host_write, Device, Host_read, act_touches, is_host}
 use Rattle.vk_types.specs.Entries.{Entry}
-use Rattle.vk_types.proofs.Lists.{all_back, all_map, all_both}
+use Rattle.base_lemmas.proofs.Lists.{all_back, all_map, all_both}
 use Rattle.vk_types.proofs.Local.{covered}
 use Rattle.core_model.specs.Script.{Script}
 use Rattle.core_model.specs.CoreState.{Segment, flat, Owner, Unmade, Home, Returning, Spare, Live, Retired, Paged, Dropped, Core, of_messages, of_running, waiting, segments, listed, taken_count, finished_count}

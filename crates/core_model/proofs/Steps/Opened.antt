@@ -8,7 +8,7 @@ use Rattle.vk_types.specs.declared.message.QueryMark.{QueryMark}
 use Rattle.vk_types.specs.declared.op.VkOp.{VkOp}
 use Rattle.vk_types.specs.Effects.{Meaning}
 use Rattle.vk_types.specs.Entries.{Entry, EntriesCovered}
-use Rattle.vk_types.proofs.Lists.{all_front, all_back, all_append, all_map, pairs_front, pairs_append, all_across}
+use Rattle.base_lemmas.proofs.Lists.{all_front, all_back, all_append, all_map, pairs_front, pairs_append, all_across}
 use Rattle.core_model.specs.Script.{Turn, Script}
 use Rattle.core_model.specs.Chunking.{chunks, cut}
 use Rattle.core_model.specs.CoreState.{Segment, entries, flat, Owner, Core, segments, later, listed, taken_count, finished_count, handed_count, open_number}

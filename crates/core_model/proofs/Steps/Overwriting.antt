@@ -5,7 +5,7 @@ use mathlib.Core.Path.{fun_ext}
 use Rattle.dx_types.specs.declared.range.Range.{Range}
 use Rattle.vk_types.specs.Memory.{Memory, covers, put, range, number_at, or_zero}
 use Rattle.vk_types.specs.Effects.{Meaning, Host_write}
-use Rattle.vk_types.proofs.Lists.{all_map}
+use Rattle.base_lemmas.proofs.Lists.{all_map}
 use Rattle.vk_types.proofs.Local.{covered_block, covered_from, covered_to}
 use Rattle.core_model.specs.Script.{No_overwrite, Turn, Item, Script, InOrder, at_start, turn_in_order, in_order}
 use Rattle.core_model.specs.Chunking.{is_due}

@@ -4,11 +4,11 @@ use Rattle.std.proofs.Common.{◌≡◌, ℕ, zero, suc, ◌<◌, ◌≤◌, Boo
 use Rattle.std.specs.List.{AllByRecursion}
 use Rattle.std.proofs.lemmas.Bool.{cases_Bool, eqb-true}
 use Rattle.vk_types.specs.declared.op.VkOp.TheVariants as op
-use Rattle.vk_types.specs.Lists.{Pairwise, IsReordering}
+use Rattle.base_lemmas.specs.Lists.{Pairwise, IsReordering}
 use Rattle.vk_types.specs.Memory.{zeros}
 use Rattle.vk_types.specs.Effects.{Meaning}
 use Rattle.vk_types.specs.Entries.{EntriesCovered, run_entries}
-use Rattle.vk_types.proofs.Lists.{all_back, all_map, all_both, pairs_back}
+use Rattle.base_lemmas.proofs.Lists.{all_back, all_map, all_both, pairs_back}
 use Rattle.core_model.specs.Script.{Script, at_start, in_order}
 use Rattle.core_model.specs.Chunking.{cut}
 use Rattle.core_model.specs.CoreState.{Segment, entries, flat, Message, Owner, Unmade, Home, Returning, Spare, Live, Retired, Paged, Dropped, Core, of_messages, of_running, rests, waiting, segments, later, on_device, listed, taken_count, finished_count, handed_count, open_number}

@@ -3,12 +3,12 @@ use Rattle.std.proofs.Common.{◌≡◌, ℕ, zero, suc, ◌+◌, ◌-◌, ◌<�
 use Rattle.std.specs.List.{AllByRecursion}
 use Rattle.std.proofs.lemmas.Bool.{both_ways, cases_Bool, lt-ltb, le-leb}
 use Rattle.dx_types.specs.declared.range.Range.{Range}
-use Rattle.vk_types.specs.Lists.{numbers_from}
+use Rattle.base_lemmas.specs.Lists.{numbers_from}
 use Rattle.vk_types.specs.Memory.{covers, zeros, or_zero}
 use Rattle.vk_types.specs.Hazards.{is_touched}
 use Rattle.vk_types.specs.Effects.{Meaning, Act, Host_write, Device, Host_read, act_touches, is_host}
 use Rattle.vk_types.specs.Entries.{Entry, entry_before, entries_conflict, EntriesCovered, run_entries}
-use Rattle.vk_types.proofs.Lists.{all_front, all_back, all_append, all_map, all_both, pairs_append}
+use Rattle.base_lemmas.proofs.Lists.{all_front, all_back, all_append, all_map, all_both, pairs_append}
 use Rattle.vk_types.proofs.Local.{common, covered_block}
 use Rattle.core_model.specs.Script.{Bytes, Turn, Asked, Script, InOrder, at_start, in_order}
 use Rattle.core_model.specs.Chunking.{is_due}

@@ -8,7 +8,7 @@ use Rattle.vk_types.specs.Hazards.{touches, has_write}
 use Rattle.vk_types.specs.Effects.{Device, is_host}
 use Rattle.vk_types.specs.BarrierCauses.{lesser, writes_block, least_writer, host_barrier, maybe_barrier, barrier_before, recent_after, barriers_from}
 use Rattle.vk_types.specs.Entries.{Entry, Counts, next, after_host, after_barrier, after_submit, after_fence, rest_of, start_counts}
-use Rattle.vk_types.proofs.Lists.{all_append}
+use Rattle.base_lemmas.proofs.Lists.{all_append}
 use Rattle.core_model.specs.Script.{updated}
 use Rattle.core_model.specs.Stands.{touches_block}
 use Rattle.core_model.specs.RunReads.{ReadsStaging}

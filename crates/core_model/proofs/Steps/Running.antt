@@ -1,10 +1,10 @@
 -- The device runs a ready command: what is left, run in the listing's order, completes what it holds then.
 use Rattle.std.proofs.Common.{◌≡◌, ℕ, ◌≤◌, true, false, List, [], ◌∷◌, ◌++◌, length, sym, ap, ◌∙◌, subst, arith, append_assoc, length-append}
 use Rattle.std.specs.List.{AllByRecursion}
-use Rattle.vk_types.specs.Lists.{Pairwise, IsReordering, Sublist}
+use Rattle.base_lemmas.specs.Lists.{Pairwise, IsReordering, Sublist}
 use Rattle.vk_types.specs.Effects.{Meaning, act_effect}
 use Rattle.vk_types.specs.Entries.{Entry, entry_before, entries_conflict, EntriesCovered, EntriesKeep}
-use Rattle.vk_types.proofs.Lists.{all_front, all_back, all_append, pairs_front, pairs_back, pairs_sublist, pairs_to, pairs_without, sublist_trans, sublist_without}
+use Rattle.base_lemmas.proofs.Lists.{all_front, all_back, all_append, pairs_front, pairs_back, pairs_sublist, pairs_to, pairs_without, sublist_trans, sublist_without}
 use Rattle.vk_types.proofs.Reorder.{to_front, Commute}
 use Rattle.core_model.specs.Script.{Script}
 use Rattle.core_model.specs.CoreState.{flat, Running, Core, of_messages, of_running, rests, waiting, on_device, listed}

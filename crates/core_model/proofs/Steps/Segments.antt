@@ -1,9 +1,9 @@
 -- The chunks of a core as one list of segments, and what is known of each part of it.
 use Rattle.std.proofs.Common.{◌≡◌, ℕ, suc, ◌+◌, ◌<◌, ◌≤◌, List, [], ◌∷◌, ◌++◌, length, refl, sym, ap, ◌∙◌, subst, Some, slice_get, arith, append_assoc, append-nil, length-append}
 use Rattle.std.specs.List.{AllByRecursion}
-use Rattle.vk_types.specs.Lists.{Sublist, ended}
+use Rattle.base_lemmas.specs.Lists.{Sublist, ended}
 use Rattle.vk_types.specs.Entries.{Entry}
-use Rattle.vk_types.proofs.Lists.{all_front, all_back, all_append, all_map, all_sublist, sublist_append, sublist_none}
+use Rattle.base_lemmas.proofs.Lists.{all_front, all_back, all_append, all_map, all_sublist, sublist_append, sublist_none}
 use Rattle.core_model.specs.CoreState.{Segment, entries, flat, Running, Message, Core, of_messages, of_running, rests, waiting, segments, later, listed, on_device, handed_count, taken_count}
 use Rattle.core_model.specs.Invariant.{Numbered, turns_of, commands_of, listed_acts}
 use Rattle.core_model.proofs.Listing.Worlds.{flat-append}

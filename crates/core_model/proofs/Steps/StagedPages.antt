@@ -3,7 +3,7 @@ use Rattle.std.proofs.Common.{◌≡◌, ℕ, ◌≤◌, true, List, ◌∷◌, 
 use Rattle.std.specs.List.{AllByRecursion}
 use Rattle.std.proofs.lemmas.Bool.{both_ways}
 use Rattle.dx_types.specs.declared.range.Range.{Range}
-use Rattle.vk_types.proofs.Lists.{all_back}
+use Rattle.base_lemmas.proofs.Lists.{all_back}
 use Rattle.core_model.specs.CoreState.{Owner, Unmade, Home, Returning, Spare, Live, Retired, Paged, Dropped, Pool}
 use Rattle.core_model.specs.Owners.{nothing_bound, in_ranges, bind_owner}
 use Rattle.core_model.specs.Placing.{PageChoice, Staged, Stages, On_newest, On_spare, On_new}

@@ -13,7 +13,7 @@ use Rattle.vk_types.specs.Memory.{Memory, covers, put, byte_of, number_at}
 use Rattle.vk_types.specs.Hazards.{touch, read_access, touches, cond_touches, is_touched}
 use Rattle.vk_types.specs.Effects.{Meaning, Host_write, is_skipped, invocations}
 use Rattle.vk_types.specs.BarrierCauses.{least_conflict, caused}
-use Rattle.vk_types.proofs.Lists.{all_map}
+use Rattle.base_lemmas.proofs.Lists.{all_map}
 use Rattle.vk_types.proofs.Local.{covered, covered_block}
 use Rattle.core_model.specs.Script.{Stage, Turn, Item, Script, InOrder, updated, staged_in_order, at_start, turn_in_order, in_order}
 use Rattle.core_model.specs.Chunking.{is_due}

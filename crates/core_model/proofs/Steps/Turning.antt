@@ -8,11 +8,11 @@ use Rattle.dx_types.specs.declared.range.Range.{Range}
 use Rattle.vk_types.specs.declared.message.Placed.{Placed}
 use Rattle.vk_types.specs.declared.message.QueryMark.{QueryMark}
 use Rattle.vk_types.specs.declared.op.VkOp.TheVariants as op
-use Rattle.vk_types.specs.Lists.{Pairwise}
+use Rattle.base_lemmas.specs.Lists.{Pairwise}
 use Rattle.vk_types.specs.Memory.{zeros}
 use Rattle.vk_types.specs.Effects.{Meaning}
 use Rattle.vk_types.specs.Entries.{EntriesCovered, run_entries}
-use Rattle.vk_types.proofs.Lists.{all_append}
+use Rattle.base_lemmas.proofs.Lists.{all_append}
 use Rattle.core_model.specs.Script.{Ask, Constant, Turn, Refused, Passed, Flushed, Asked, Item, Create_shader, Mark_query, is_plain, Script, InOrder, at_start, turn_in_order, in_order}
 use Rattle.core_model.specs.Chunking.{is_due, cut}
 use Rattle.core_model.specs.CoreState.{Segment, entries, flat, Core, segments, later, listed, done, open_number, Said, Value_said, Still_said, Refused_said, End_said}

@@ -15,7 +15,7 @@ use Rattle.vk_types.specs.Memory.{covers, or_zero}
 use Rattle.vk_types.specs.Hazards.{groups_touches, slot_touch, work_touches, cond_touches, is_touched}
 use Rattle.vk_types.specs.Effects.{Meaning}
 use Rattle.vk_types.proofs.Local.{covered, covered_block, covered_from, covered_to}
-use Rattle.vk_types.proofs.Lists.{all_map}
+use Rattle.base_lemmas.proofs.Lists.{all_map}
 use Rattle.core_model.specs.Script.{Turn, Script, at_start, in_order}
 use Rattle.core_model.specs.Renaming.{BlockMap, block_of, range_on, slot_on, groups_on, work_on, cond_on}
 use Rattle.core_model.specs.CoreState.{Segment, Owner, Unmade, Home, Returning, Spare, Live, Retired, Paged, Dropped}

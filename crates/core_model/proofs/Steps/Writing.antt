@@ -6,7 +6,7 @@ use Rattle.dx_types.specs.declared.range.Range.{Range}
 use Rattle.vk_types.specs.Memory.{zeros, covers, number_at}
 use Rattle.vk_types.specs.Effects.{Meaning, Host_write, act_touches, is_host}
 use Rattle.vk_types.specs.Entries.{Entry, entry_before, entries_conflict, EntriesCovered, run_entries}
-use Rattle.vk_types.proofs.Lists.{all_front, all_back, all_append, all_map, all_both, pairs_with}
+use Rattle.base_lemmas.proofs.Lists.{all_front, all_back, all_append, all_map, all_both, pairs_with}
 use Rattle.vk_types.proofs.Local.{common, covered_block, covered_from, covered_to}
 use Rattle.vk_types.proofs.Reorder.{to_front, Commute}
 use Rattle.core_model.specs.Script.{Script}

@@ -12,7 +12,7 @@ use Rattle.dx_types.specs.declared.shape.Form.TheVariants.{Raw, Structured, Type
 use Rattle.vk_types.specs.declared.command.Work.TheVariants as work
 use Rattle.vk_types.specs.Memory.{Memory as Bytes, range, put, byte_in, number_at}
 use Rattle.vk_types.specs.Effects.{Meaning, work_effect, work_count}
-use Rattle.d3d_model.specs.IdMap.{IdMap, get}
+use Rattle.base_lemmas.specs.IdMap.{IdMap, get}
 use Rattle.d3d_model.specs.Regions as lists
 use Rattle.d3d_model.specs.Regions.{filled, spelled, repeated}
 use Rattle.d3d_model.specs.View.{view_range, view_end}
@@ -21,7 +21,7 @@ use Rattle.d3d_model.specs.Binding.{BoundView, Predicate}
 use Rattle.d3d_model.specs.D3dState.{Objects, Memory, Query, bytes_of, buffer_of}
 use Rattle.d3d_model.specs.Past.{Past}
 use Rattle.d3d_model.specs.Memory.{write, write_if, discarded, element, elements, cleared, is_skipped, unless_skipped}
-use Rattle.d3d_model.proofs.Maps.{get_same}
+use Rattle.base_lemmas.proofs.Maps.{get_same}
 use Rattle.d3d_model.proofs.Sized.{Sized, length-put, length-filled, put_fits, same_write}
 use Rattle.core_model.specs.Script.{Play, Script, InOrder, Discard, No_overwrite, put_bytes, padded, play_in_order}
 use Rattle.log_script.specs.Makers.{maker, bytes_from}

@@ -9,7 +9,7 @@ use Rattle.vk_types.specs.declared.command.Work.TheVariants as work
 use Rattle.vk_types.specs.Memory.{Memory as Bytes, range, put, byte_of, number_at}
 use Rattle.vk_types.specs.Effects as device
 use Rattle.vk_types.specs.Effects.{Meaning, work_effect, work_count}
-use Rattle.d3d_model.specs.IdMap.{IdMap, get}
+use Rattle.base_lemmas.specs.IdMap.{IdMap, get}
 use Rattle.d3d_model.specs.Regions as lists
 use Rattle.d3d_model.specs.Regions.{slice, word_at}
 use Rattle.d3d_model.specs.Resource.{size_of}

@@ -7,14 +7,14 @@ use Rattle.std.proofs.lemmas.List.{length-set, length-map}
 use Rattle.dx_types.specs.declared.refusal.Refusal.{Refusal}
 use Rattle.call_log.specs.Call as calls
 use Rattle.call_log.specs.Call.{Call, Issued}
-use Rattle.d3d_model.specs.IdMap.{IdMap, get, insert, remove}
+use Rattle.base_lemmas.specs.IdMap.{IdMap, get, insert, remove}
 use Rattle.d3d_model.specs.Binding.{Bindings, BoundView, default_bindings, is_beside, without, set_srv, set_uav}
 use Rattle.d3d_model.specs.D3dState.{Objects, Shader, Numbered, Context, bindings_of, words_if, calls_of_list, bound_view}
 use Rattle.d3d_model.specs.Stream.{set_by}
 use Rattle.d3d_model.specs.Verdict.{Place, OnDevice, OnImmediate, OnEach, OnDeferred, place_of}
 use Rattle.d3d_model.specs.Effect.{made_by, played, played_all, list_start, recorded_on, immediate_effect, effect_at}
 use Rattle.d3d_model.specs.InOrder.{State, unless_refused, verdict_in, after_call, after_calls, call_at}
-use Rattle.d3d_model.proofs.Maps.{get-empty, get_same, get_other}
+use Rattle.base_lemmas.proofs.Maps.{get-empty, get_same, get_other}
 use Rattle.log_script.specs.Plays.{creator}
 use Rattle.log_script.specs.LogScript.{words_by}
 use Rattle.log_script.proofs.Owed.BufferMakers.{none_some, one_removed}

@@ -13,7 +13,7 @@ use Rattle.shader_model.specs.Shader.{Program, shader_of}
 use Rattle.shader_model.specs.Invocation.{Slots, words_in}
 use Rattle.shader_model.proofs.Lengths.{dispatched_keeps}
 use Rattle.call_log.specs.Call.{Issued}
-use Rattle.d3d_model.specs.IdMap.{IdMap, get}
+use Rattle.base_lemmas.specs.IdMap.{IdMap, get}
 use Rattle.d3d_model.specs.Resource.{size_of}
 use Rattle.d3d_model.specs.View.{view_range}
 use Rattle.d3d_model.specs.Binding.{Bindings, BoundView}

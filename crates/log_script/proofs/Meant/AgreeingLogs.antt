@@ -8,7 +8,7 @@ use Rattle.vk_types.specs.Memory.{Memory as Bytes, range, number_at}
 use Rattle.vk_types.specs.Effects.{Meaning}
 use Rattle.call_log.specs.Call as calls
 use Rattle.call_log.specs.Call.{Call, Issued}
-use Rattle.d3d_model.specs.IdMap.{IdMap, get, insert, remove}
+use Rattle.base_lemmas.specs.IdMap.{IdMap, get, insert, remove}
 use Rattle.d3d_model.specs.Regions.{filled}
 use Rattle.d3d_model.specs.Resource.{size_of}
 use Rattle.d3d_model.specs.Binding.{Bindings, default_bindings}
@@ -19,7 +19,7 @@ use Rattle.d3d_model.specs.Verdict.{place_of, is_begun_on, query_is_one, call_ch
 use Rattle.d3d_model.specs.Effect.{played, played_all, recorded_on, list_start}
 use Rattle.d3d_model.specs.Memory.{no_counts, run, run_all}
 use Rattle.d3d_model.specs.InOrder.{State, accepted, unless_refused, verdict_in, after_call, after_calls}
-use Rattle.d3d_model.proofs.Maps.{get-empty, get_same, get_other}
+use Rattle.base_lemmas.proofs.Maps.{get-empty, get_same, get_other}
 use Rattle.d3d_model.proofs.Checked.{Passed}
 use Rattle.d3d_model.proofs.Pasts.{list_makes_none}
 use Rattle.d3d_model.proofs.Sized.{Sized, sized, length-filled}

@@ -11,7 +11,7 @@ use Rattle.vk_types.specs.declared.command.Groups.TheVariants as groups
 use Rattle.vk_types.specs.Effects.{group_counts}
 use Rattle.call_log.specs.Call as calls
 use Rattle.call_log.specs.Call.{Call, Issued}
-use Rattle.d3d_model.specs.IdMap.{get}
+use Rattle.base_lemmas.specs.IdMap.{get}
 use Rattle.d3d_model.specs.Regions.{word_at}
 use Rattle.d3d_model.specs.View.{view_range}
 use Rattle.d3d_model.specs.Binding.{Bindings, BoundView}

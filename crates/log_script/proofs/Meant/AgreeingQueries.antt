@@ -3,14 +3,14 @@ use Rattle.std.proofs.Common.{◌≡◌, ℕ, ◌-◌, ◌==◌, Bool, true, fal
 use Rattle.std.specs.Prelude.{unwrap_or, if◌then◌else◌}
 use Rattle.std.proofs.lemmas.Bool.{both_ways, cases_eq, eqb-true, eq-eqb, ne_eqb}
 use Rattle.vk_types.specs.Effects.{Meaning}
-use Rattle.d3d_model.specs.IdMap.{IdMap, get, insert}
+use Rattle.base_lemmas.specs.IdMap.{IdMap, get, insert}
 use Rattle.d3d_model.specs.D3dState.{Memory, Query, count_of}
 use Rattle.d3d_model.specs.Past.{Past}
 use Rattle.d3d_model.specs.Memory.{begun_count, ended_count, no_counts}
 use Rattle.d3d_model.specs.Effect.{begun_query, ended_query}
 use Rattle.d3d_model.specs.ReplyText.{sort_if}
 use Rattle.d3d_model.specs.Uses.{ended_if}
-use Rattle.d3d_model.proofs.Maps.{get-remove, get_same, get_other, other_key}
+use Rattle.base_lemmas.proofs.Maps.{get-remove, get_same, get_other, other_key}
 use Rattle.core_model.specs.Script.{Script, InOrder, Mark_query, Set_state, play_in_order}
 use Rattle.log_script.specs.Plays.{counts_invocations}
 use Rattle.log_script.proofs.Owed.QueryMaps.{flag, started, stopped, after_begin, after_end, stopped_counts, counted_ended}

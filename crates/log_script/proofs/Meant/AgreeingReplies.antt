@@ -6,11 +6,11 @@ use Rattle.std.proofs.lemmas.Bool.{both_ways, and_parts, or_parts, not-false, eq
 use Rattle.dx_types.specs.declared.refusal.Refusal.{Refusal}
 use Rattle.dx_types.specs.declared.reply.Reply.{Reply}
 use Rattle.dx_types.specs.declared.reply.Reply.TheVariants as said
-use Rattle.vk_types.specs.Lists.{numbers_from}
+use Rattle.base_lemmas.specs.Lists.{numbers_from}
 use Rattle.vk_types.specs.Memory.{byte_of}
 use Rattle.call_log.specs.Call as calls
 use Rattle.call_log.specs.Call.{Call, Issued}
-use Rattle.d3d_model.specs.IdMap.{get}
+use Rattle.base_lemmas.specs.IdMap.{get}
 use Rattle.d3d_model.specs.Regions.{slice}
 use Rattle.d3d_model.specs.Resource.{size_of}
 use Rattle.d3d_model.specs.D3dState.{Objects, Query, Numbered, buffer_of, bytes_of, count_of, calls_of_list}
@@ -20,7 +20,7 @@ use Rattle.d3d_model.specs.Effect.{played, list_start}
 use Rattle.d3d_model.specs.InOrder.{State, verdict_in, after_calls}
 use Rattle.d3d_model.specs.Uses.{use_in}
 use Rattle.d3d_model.specs.ReplyText.{none_pending, sort_if, query_value, answer, answer_or_still, reply_unless, reply_to, reply_at}
-use Rattle.d3d_model.proofs.Maps.{get-empty}
+use Rattle.base_lemmas.proofs.Maps.{get-empty}
 use Rattle.d3d_model.proofs.Listed.{own_checks}
 use Rattle.d3d_model.proofs.Sized.{Sized, sized}
 use Rattle.core_model.specs.Script.{Ask, Bytes, Count, Constant, Turn, Refused, Passed, Flushed, Asked, Item, InOrder, at_start, in_order}

@@ -9,7 +9,7 @@ use Rattle.dx_types.specs.declared.range.ResRange.{ResRange}
 use Rattle.vk_types.specs.declared.command.SlotName.{SlotName}
 use Rattle.vk_types.specs.declared.command.SlotName.TheVariants as slot
 use Rattle.vk_types.specs.declared.command.SlotRange.{SlotRange}
-use Rattle.vk_types.specs.Lists.{numbers_from}
+use Rattle.base_lemmas.specs.Lists.{numbers_from}
 use Rattle.vk_types.specs.Memory.{Memory as Bytes, put, byte_in, byte_in_words, number_at}
 use Rattle.vk_types.specs.Effects.{words_in, is_constant, is_srv, is_uav, slot_words, slots_words, put_slot, put_slots}
 use Rattle.d3d_model.specs.Regions.{put as put_list, slice, words_of, spelled}

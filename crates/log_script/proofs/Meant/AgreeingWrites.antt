@@ -5,12 +5,12 @@ use Rattle.std.specs.Option.{option_map}
 use Rattle.std.proofs.lemmas.Bool.{cases_eq, ne_eqb}
 use Rattle.dx_types.specs.declared.shape.Shape.{Shape}
 use Rattle.vk_types.specs.Memory.{Memory as Bytes, range, put}
-use Rattle.d3d_model.specs.IdMap.{IdMap, get, insert}
+use Rattle.base_lemmas.specs.IdMap.{IdMap, get, insert}
 use Rattle.d3d_model.specs.Regions as lists
 use Rattle.d3d_model.specs.D3dState.{Objects, Memory, Query, bytes_of, bytes_if, count_of}
 use Rattle.d3d_model.specs.Past.{Past}
 use Rattle.d3d_model.specs.Memory.{write_if, write}
-use Rattle.d3d_model.proofs.Maps.{get_same, get_other}
+use Rattle.base_lemmas.proofs.Maps.{get_same, get_other}
 use Rattle.d3d_model.proofs.Sized.{Sized}
 use Rattle.core_model.specs.Script.{Script, InOrder}
 use Rattle.log_script.specs.Makers.{maker}

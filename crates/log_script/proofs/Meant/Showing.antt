@@ -2,7 +2,7 @@
 use Rattle.std.proofs.Common.{◌≡◌, ℕ, zero, suc, ◌+◌, ◌-◌, ◌*◌, ◌/◌, ◌%◌, ◌<◌, ◌≤◌, ◌==◌, Bool, true, false, ◌&&◌, cond, eqb, ltb, leb, List, length, map, drop, get_or, refl, sym, ap, ◌∙◌, arith, inl, inr}
 use Rattle.std.proofs.lemmas.Bool.{le-leb, lt-leb, lt-ltb, le-ltb, eq-eqb, ne_eqb, cases_lt, and_from, and_left, and_right}
 use Rattle.std.proofs.lemmas.List.{length-map, get_or-map, get_or-drop, get_or_default, same_lists}
-use Rattle.vk_types.specs.Lists.{numbers_from}
+use Rattle.base_lemmas.specs.Lists.{numbers_from}
 use Rattle.vk_types.specs.Memory.{Memory, range, covers, put, byte_of, word_of, byte_in}
 use Rattle.vk_types.specs.Effects.{words_in}
 use Rattle.d3d_model.specs.Regions as lists

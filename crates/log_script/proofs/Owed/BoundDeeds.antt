@@ -6,7 +6,7 @@ use Rattle.std.proofs.lemmas.Bool.{and_from, or_parts, or_from, false_from_ne_tr
 use Rattle.dx_types.specs.declared.range.Range.{Range}
 use Rattle.dx_types.specs.declared.range.ResRange.{ResRange}
 use Rattle.vk_types.specs.Memory.{covers}
-use Rattle.d3d_model.specs.IdMap.{get}
+use Rattle.base_lemmas.specs.IdMap.{get}
 use Rattle.d3d_model.specs.Resource.{Buffers}
 use Rattle.d3d_model.specs.Past.{Past, Deed, Makes, Discards, Binds, then_done, meets, renews, binds_byte_of, binds_some_of, is_bound}
 use Rattle.core_model.specs.Script.{Turn}

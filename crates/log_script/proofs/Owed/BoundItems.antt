@@ -10,7 +10,7 @@ use Rattle.vk_types.specs.declared.command.Work.{Work}
 use Rattle.vk_types.specs.declared.command.Work.TheVariants as work
 use Rattle.call_log.specs.Call as calls
 use Rattle.call_log.specs.Call.{Call}
-use Rattle.d3d_model.specs.IdMap.{IdMap, get}
+use Rattle.base_lemmas.specs.IdMap.{IdMap, get}
 use Rattle.d3d_model.specs.Resource.{Buffers}
 use Rattle.d3d_model.specs.Binding as binding
 use Rattle.d3d_model.specs.Binding.{Bindings, BoundView, Predicate, default_bindings}

@@ -8,7 +8,7 @@ use Rattle.dx_types.specs.declared.range.ResRange.{ResRange}
 use Rattle.dx_types.specs.declared.range.Range.{Range}
 use Rattle.call_log.specs.Call as calls
 use Rattle.call_log.specs.Call.{Call, Issued}
-use Rattle.d3d_model.specs.IdMap.{get}
+use Rattle.base_lemmas.specs.IdMap.{get}
 use Rattle.d3d_model.specs.Resource.{Buffers}
 use Rattle.d3d_model.specs.Binding as binding
 use Rattle.d3d_model.specs.Binding.{Bindings, default_bindings}

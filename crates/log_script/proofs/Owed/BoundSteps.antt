@@ -8,7 +8,7 @@ use Rattle.dx_types.specs.declared.refusal.Refusal.{Refusal}
 use Rattle.dx_types.specs.declared.shape.Shape.{Shape}
 use Rattle.call_log.specs.Call as calls
 use Rattle.call_log.specs.Call.{Call, Issued}
-use Rattle.d3d_model.specs.IdMap.{get, remove}
+use Rattle.base_lemmas.specs.IdMap.{get, remove}
 use Rattle.d3d_model.specs.Resource.{Buffers}
 use Rattle.d3d_model.specs.Binding.{Bindings, default_bindings}
 use Rattle.d3d_model.specs.D3dState.{Objects, Numbered, bindings_of, calls_if, calls_of_list}
@@ -17,7 +17,7 @@ use Rattle.d3d_model.specs.Stream.{binds, deeds, deeds_of_list}
 use Rattle.d3d_model.specs.Verdict.{place_of, call_checks}
 use Rattle.d3d_model.specs.Effect.{played, played_all, recorded_on, list_start, objects_after}
 use Rattle.d3d_model.specs.InOrder.{State, accepted, unless_refused, verdict_in, after_call, after_calls}
-use Rattle.d3d_model.proofs.Maps.{get-remove, get_other}
+use Rattle.base_lemmas.proofs.Maps.{get-remove, get_other}
 use Rattle.d3d_model.proofs.Checked.{Passed}
 use Rattle.d3d_model.proofs.Listed.{own_checks}
 use Rattle.d3d_model.proofs.Pasts.{list_makes_none}

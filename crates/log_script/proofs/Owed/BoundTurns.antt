@@ -5,11 +5,11 @@ use Rattle.std.specs.List.{list_any}
 use Rattle.std.proofs.lemmas.Bool.{cases_eq, eq-eqb, ne_eqb}
 use Rattle.dx_types.specs.declared.shape.Shape.{Shape}
 use Rattle.call_log.specs.Call.{Issued}
-use Rattle.d3d_model.specs.IdMap.{get}
+use Rattle.base_lemmas.specs.IdMap.{get}
 use Rattle.d3d_model.specs.Resource.{Buffers}
 use Rattle.d3d_model.specs.Past.{Past, Makes, binds_some_of, is_bound, last_binding}
 use Rattle.d3d_model.specs.InOrder.{after_calls}
-use Rattle.d3d_model.proofs.Maps.{get-empty}
+use Rattle.base_lemmas.proofs.Maps.{get-empty}
 use Rattle.d3d_model.proofs.Pasts.{last_binding_then}
 use Rattle.core_model.specs.Script.{Create, Turn, Item}
 use Rattle.core_model.specs.Chunking.{call_of}

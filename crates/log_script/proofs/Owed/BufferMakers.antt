@@ -5,11 +5,11 @@ use Rattle.std.specs.Ordering.{nat_cmp, eq_by_cmp}
 use Rattle.std.proofs.lemmas.Bool.{cases_eq, eq-eqb, ne_eqb}
 use Rattle.dx_types.specs.declared.shape.Shape.{Shape}
 use Rattle.call_log.specs.Call.{Issued}
-use Rattle.d3d_model.specs.IdMap.{IdMap, get, insert, remove}
+use Rattle.base_lemmas.specs.IdMap.{IdMap, get, insert, remove}
 use Rattle.d3d_model.specs.Resource.{Buffers}
 use Rattle.d3d_model.specs.Past.{Past}
 use Rattle.d3d_model.specs.InOrder.{after_calls}
-use Rattle.d3d_model.proofs.Maps.{get-empty, get-remove, get_same, get_other}
+use Rattle.base_lemmas.proofs.Maps.{get-empty, get-remove, get_same, get_other}
 use Rattle.core_model.specs.Script.{Turn}
 use Rattle.log_script.specs.Makers.{maker}
 use Rattle.log_script.specs.LogScript.{shape_made}

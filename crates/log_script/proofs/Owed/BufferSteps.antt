@@ -12,7 +12,7 @@ use Rattle.vk_types.specs.declared.command.Work.{Work}
 use Rattle.vk_types.specs.declared.command.Work.TheVariants as work
 use Rattle.call_log.specs.Call as calls
 use Rattle.call_log.specs.Call.{Call, Issued}
-use Rattle.d3d_model.specs.IdMap.{get, insert, remove}
+use Rattle.base_lemmas.specs.IdMap.{get, insert, remove}
 use Rattle.d3d_model.specs.Check.{Check}
 use Rattle.d3d_model.specs.Resource.{Buffers, usage_from}
 use Rattle.d3d_model.specs.Binding as binding

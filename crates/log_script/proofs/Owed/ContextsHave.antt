@@ -5,7 +5,7 @@ use Rattle.std.specs.List.{AllByRecursion}
 use Rattle.dx_types.specs.declared.refusal.Refusal.{Refusal}
 use Rattle.call_log.specs.Call as calls
 use Rattle.call_log.specs.Call.{Call, Issued}
-use Rattle.d3d_model.specs.IdMap.{remove}
+use Rattle.base_lemmas.specs.IdMap.{remove}
 use Rattle.d3d_model.specs.Binding.{Bindings, default_bindings}
 use Rattle.d3d_model.specs.D3dState.{Objects, Numbered, Context, default_context, context_of, bindings_of, calls_of_list}
 use Rattle.d3d_model.specs.Stream.{set_by}

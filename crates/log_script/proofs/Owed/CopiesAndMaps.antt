@@ -5,7 +5,7 @@ use Rattle.std.specs.List.{list_any}
 use Rattle.std.proofs.lemmas.Bool.{or_left, or_right, or_cases, and_from, eqb-true, eq-eqb, ltb-false}
 use Rattle.call_log.specs.Call as calls
 use Rattle.call_log.specs.Call.{Call, Issued}
-use Rattle.d3d_model.specs.IdMap.{get}
+use Rattle.base_lemmas.specs.IdMap.{get}
 use Rattle.d3d_model.specs.Resource.{Buffers, size_of}
 use Rattle.d3d_model.specs.D3dState.{Objects, Numbered, calls_if, calls_of_list}
 use Rattle.d3d_model.specs.Past.{Past}

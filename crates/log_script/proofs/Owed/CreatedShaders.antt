@@ -6,12 +6,12 @@ use Rattle.std.proofs.lemmas.List.Folds.{list_any-append}
 use Rattle.dx_types.specs.declared.refusal.Refusal.{Refusal}
 use Rattle.call_log.specs.Call as calls
 use Rattle.call_log.specs.Call.{Call, Issued}
-use Rattle.d3d_model.specs.IdMap.{IdMap, get, remove, empty}
+use Rattle.base_lemmas.specs.IdMap.{IdMap, get, remove, empty}
 use Rattle.d3d_model.specs.D3dState.{Objects, Shader, Numbered, calls_of_list}
 use Rattle.d3d_model.specs.Verdict.{Place, OnDevice, OnImmediate, OnEach, OnDeferred, place_of}
 use Rattle.d3d_model.specs.Effect.{made_by, played, played_all, list_start, recorded_on, immediate_effect, effect_at}
 use Rattle.d3d_model.specs.InOrder.{State, unless_refused, verdict_in, after_call, after_calls}
-use Rattle.d3d_model.proofs.Maps.{get-empty}
+use Rattle.base_lemmas.proofs.Maps.{get-empty}
 use Rattle.core_model.specs.Script.{Turn}
 use Rattle.core_model.specs.OtherParts.{created_by, created, is_among}
 use Rattle.log_script.specs.Turns.{turns_by_place, turns_unless, turns_in}

@@ -2,8 +2,8 @@
 use Rattle.std.proofs.Common.{◌≡◌, ℕ, Option, Some, None, sym, ap, ◌∙◌, subst, inl, inr}
 use Rattle.std.specs.Prelude.{unwrap_or}
 use Rattle.std.proofs.lemmas.Bool.{cases_eq}
-use Rattle.d3d_model.specs.IdMap.{IdMap, empty, get, insert}
-use Rattle.d3d_model.proofs.Maps.{get-empty, get_same, get_other}
+use Rattle.base_lemmas.specs.IdMap.{IdMap, empty, get, insert}
+use Rattle.base_lemmas.proofs.Maps.{get-empty, get_same, get_other}
 
 abbrev pub AllIn : {X : Type 0} → (ℕ → X → Type 0) → IdMap X → Type 0
 AllIn {X} P m = (id : ℕ) (x : X) → get m id ≡ Some x → P id x

@@ -4,14 +4,14 @@ use Rattle.std.specs.Prelude.{◌==◌, unwrap_or, if◌then◌else◌}
 use Rattle.std.specs.List.{AllByRecursion}
 use Rattle.std.proofs.lemmas.Bool.{eq-eqb}
 use Rattle.dx_types.specs.declared.shape.Shape.{Shape}
-use Rattle.vk_types.specs.Lists.{Pairwise}
+use Rattle.base_lemmas.specs.Lists.{Pairwise}
 use Rattle.vk_types.specs.Effects.{Meaning}
 use Rattle.call_log.specs.Call.{Issued}
-use Rattle.d3d_model.specs.IdMap.{IdMap, get, remove, values}
+use Rattle.base_lemmas.specs.IdMap.{IdMap, get, remove, values}
 use Rattle.d3d_model.specs.Resource.{Buffers, is_dynamic, class_of, counts_as, live_dynamic}
 use Rattle.d3d_model.specs.Past.{Past}
 use Rattle.d3d_model.specs.InOrder.{after_calls}
-use Rattle.d3d_model.proofs.Maps.{get-remove, other_key, total-remove-exactly}
+use Rattle.base_lemmas.proofs.Maps.{get-remove, other_key, total-remove-exactly}
 use Rattle.d3d_model.proofs.Limits.{in_limits}
 use Rattle.core_model.specs.Script.{Turn, Script, InOrder, at_start, in_order}
 use Rattle.core_model.specs.Lawful.{FewLive}

@@ -16,7 +16,7 @@ use Rattle.vk_types.specs.declared.command.Work.TheVariants as work
 use Rattle.vk_types.specs.Hazards.{groups_touches, slot_touch, work_touches, cond_touches}
 use Rattle.call_log.specs.Call as calls
 use Rattle.call_log.specs.Call.{Call}
-use Rattle.d3d_model.specs.IdMap.{get}
+use Rattle.base_lemmas.specs.IdMap.{get}
 use Rattle.d3d_model.specs.Resource.{size_of}
 use Rattle.d3d_model.specs.View.{view_range}
 use Rattle.d3d_model.specs.Binding as binding

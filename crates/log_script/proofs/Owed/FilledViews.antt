@@ -8,7 +8,7 @@ use Rattle.dx_types.specs.declared.shape.Shape.{Shape}
 use Rattle.dx_types.specs.declared.shape.ViewShape.{ViewShape}
 use Rattle.call_log.specs.Call as calls
 use Rattle.call_log.specs.Call.{Call, Issued}
-use Rattle.d3d_model.specs.IdMap.{IdMap, get, remove}
+use Rattle.base_lemmas.specs.IdMap.{IdMap, get, remove}
 use Rattle.d3d_model.specs.Resource.{is_one}
 use Rattle.d3d_model.specs.View.{form_from, unit_of, lacks_form, is_outside, view_end}
 use Rattle.d3d_model.specs.D3dState.{Objects, buffer_of, calls_of_list}

@@ -8,7 +8,7 @@ use Rattle.dx_types.specs.declared.shape.ViewShape.{ViewShape}
 use Rattle.dx_types.specs.declared.range.ResRange.{ResRange}
 use Rattle.call_log.specs.Call as calls
 use Rattle.call_log.specs.Call.{Call}
-use Rattle.d3d_model.specs.IdMap.{get}
+use Rattle.base_lemmas.specs.IdMap.{get}
 use Rattle.d3d_model.specs.Check.{has, is_named}
 use Rattle.d3d_model.specs.Resource.{is_dynamic, is_staging, size_of, is_one}
 use Rattle.d3d_model.specs.View.{view_range}

@@ -8,7 +8,7 @@ use Rattle.dx_types.specs.declared.shape.ViewShape.{ViewShape}
 use Rattle.dx_types.specs.declared.range.ResRange.{ResRange}
 use Rattle.call_log.specs.Call as calls
 use Rattle.call_log.specs.Call.{Call, Issued}
-use Rattle.d3d_model.specs.IdMap.{empty, get}
+use Rattle.base_lemmas.specs.IdMap.{empty, get}
 use Rattle.d3d_model.specs.Binding.{Bindings, default_bindings}
 use Rattle.d3d_model.specs.D3dState.{Objects, Numbered, default_context, no_objects, bindings_of, calls_of_list}
 use Rattle.d3d_model.specs.Past.{Past, Deed, Discards, Binds}
@@ -17,7 +17,7 @@ use Rattle.d3d_model.specs.Verdict.{Place, OnDevice, OnImmediate, OnEach, OnDefe
 use Rattle.d3d_model.specs.Effect.{played, recorded_on, objects_after, immediate_deeds, deeds_at}
 use Rattle.d3d_model.specs.InOrder.{State, unless_refused, verdict_in, after_call, after_calls, before_call}
 use Rattle.d3d_model.specs.Uses.{range_bound, bound_unless, bound_by, bound}
-use Rattle.d3d_model.proofs.Maps.{get-empty}
+use Rattle.base_lemmas.proofs.Maps.{get-empty}
 use Rattle.d3d_model.proofs.Checked.{Passed}
 use Rattle.d3d_model.proofs.Listed.{own_checks}
 use Rattle.log_script.specs.Fitting.{SetFits, ListFits}

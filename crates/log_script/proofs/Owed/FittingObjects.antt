@@ -9,7 +9,7 @@ use Rattle.dx_types.specs.declared.shape.Shape.{Shape}
 use Rattle.dx_types.specs.declared.shape.ViewShape.{ViewShape}
 use Rattle.call_log.specs.Call as calls
 use Rattle.call_log.specs.Call.{Call}
-use Rattle.d3d_model.specs.IdMap.{IdMap, get, insert, remove, values}
+use Rattle.base_lemmas.specs.IdMap.{IdMap, get, insert, remove, values}
 use Rattle.d3d_model.specs.Check.{Check, has}
 use Rattle.d3d_model.specs.Resource.{usage_from, is_one}
 use Rattle.d3d_model.specs.View.{form_from, unit_of, lacks_bind, lacks_form, is_outside, view_end, view_range}
@@ -18,7 +18,7 @@ use Rattle.d3d_model.specs.D3dState.{Objects, Shader, Query, Context, buffer_of}
 use Rattle.d3d_model.specs.Stream.{list_names, is_listed}
 use Rattle.d3d_model.specs.Verdict.{is_live_buffer, is_live_view, buffer_is, bad_stride, bad_components, stride_of, described, destroy_checks, view_checks, buffer_checks, unused_buffer, unused_view, unused_shader, unused_query, known_list, is_set, has_view}
 use Rattle.d3d_model.specs.Effect.{made_by, destroyed}
-use Rattle.d3d_model.proofs.Maps.{get-insert, get-remove, get_other, other_key}
+use Rattle.base_lemmas.proofs.Maps.{get-insert, get-remove, get_other, other_key}
 use Rattle.d3d_model.proofs.Checked.{Passed, free_id}
 use Rattle.d3d_model.proofs.Named.{none_of}
 use Rattle.d3d_model.proofs.Listed.{left_of, differ, listed_member}

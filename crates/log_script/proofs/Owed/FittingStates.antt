@@ -6,12 +6,12 @@ use Rattle.std.specs.Ordering.{nat_cmp, eq_by_cmp}
 use Rattle.dx_types.specs.declared.shape.ViewShape.{ViewShape}
 use Rattle.call_log.specs.Call as calls
 use Rattle.call_log.specs.Call.{Call}
-use Rattle.d3d_model.specs.IdMap.{IdMap, get, insert}
+use Rattle.base_lemmas.specs.IdMap.{IdMap, get, insert}
 use Rattle.d3d_model.specs.Binding.{Bindings, default_bindings}
 use Rattle.d3d_model.specs.D3dState.{Objects, Shader, Numbered, Context, default_context, context_of, bindings_of, with_bindings, calls_if, calls_of_list}
 use Rattle.d3d_model.specs.Stream.{set_by}
 use Rattle.d3d_model.specs.Effect.{played, played_all, list_start, recorded_on, finished, objects_after}
-use Rattle.d3d_model.proofs.Maps.{get-insert}
+use Rattle.base_lemmas.proofs.Maps.{get-insert}
 use Rattle.log_script.specs.Fitting.{SetFits}
 use Rattle.log_script.proofs.Owed.StayingFit.{unequal, all_both, all_of, all_append, all_set, all_at, Stays, Unset, Unlisted, unlisted, OwnFits, OwnsFit, set_stays, owns_stay}
 use Rattle.log_script.proofs.Owed.FittingCalls.{rests_stay, BuffersFit, ViewsFit, default_fits, set_by_fits}

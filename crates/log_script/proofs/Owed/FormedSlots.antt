@@ -15,8 +15,8 @@ use Rattle.vk_types.specs.declared.command.SlotName.{SlotName}
 use Rattle.vk_types.specs.declared.command.SlotName.TheVariants as slot
 use Rattle.vk_types.specs.declared.command.SlotRange.{SlotRange}
 use Rattle.vk_types.specs.declared.command.Groups.{Groups}
-use Rattle.vk_types.specs.Lists.{Pairwise}
-use Rattle.d3d_model.specs.IdMap.{get}
+use Rattle.base_lemmas.specs.Lists.{Pairwise}
+use Rattle.base_lemmas.specs.IdMap.{get}
 use Rattle.d3d_model.specs.Check.{has}
 use Rattle.d3d_model.specs.Resource.{size_of}
 use Rattle.d3d_model.specs.View.{view_range}

@@ -8,7 +8,7 @@ use Rattle.dx_types.specs.declared.refusal.Refusal.{Refusal}
 use Rattle.dx_types.specs.declared.refusal.Refusal.TheVariants.{InUse, FirstMapNotDiscard}
 use Rattle.call_log.specs.Call as calls
 use Rattle.call_log.specs.Call.{Call, Issued}
-use Rattle.d3d_model.specs.IdMap.{IdMap, empty, get, remove}
+use Rattle.base_lemmas.specs.IdMap.{IdMap, empty, get, remove}
 use Rattle.d3d_model.specs.Binding.{Bindings, default_bindings}
 use Rattle.d3d_model.specs.D3dState.{Objects, Numbered, Context, default_context, no_objects, context_of, bindings_of, with_bindings, calls_of_list}
 use Rattle.d3d_model.specs.Past.{Past, was_discarded}
@@ -17,7 +17,7 @@ use Rattle.d3d_model.specs.Past.{Deed, then_done}
 use Rattle.d3d_model.specs.Verdict.{is_live_buffer, in_use, no_overwrite_checks, call_checks, verdict}
 use Rattle.d3d_model.specs.Effect.{destroyed, played, played_all, list_start, recorded_on, finished, objects_after}
 use Rattle.d3d_model.specs.InOrder.{State, unless_refused, verdict_in, after_call, after_calls}
-use Rattle.d3d_model.proofs.Maps.{get-empty, get-insert, get-remove}
+use Rattle.base_lemmas.proofs.Maps.{get-empty, get-insert, get-remove}
 use Rattle.d3d_model.proofs.Checked.{Passed}
 use Rattle.d3d_model.proofs.Listed.{ListLive, ListsLive, Member, lists_live, opened_member, listed_member, own_checks}
 use Rattle.d3d_model.proofs.Frozen.{same_list}

@@ -7,11 +7,11 @@ use Rattle.std.proofs.lemmas.Bool.Decides.{nat_tests}
 use Rattle.dx_types.specs.declared.shape.Shape.{Shape}
 use Rattle.vk_types.specs.Effects.{Meaning}
 use Rattle.call_log.specs.Call.{Issued}
-use Rattle.d3d_model.specs.IdMap.{get, remove}
+use Rattle.base_lemmas.specs.IdMap.{get, remove}
 use Rattle.d3d_model.specs.Resource.{Buffers}
 use Rattle.d3d_model.specs.Past.{Past}
 use Rattle.d3d_model.specs.InOrder.{after_calls}
-use Rattle.d3d_model.proofs.Maps.{get-empty, get-remove, get_same, get_other, other_key}
+use Rattle.base_lemmas.proofs.Maps.{get-empty, get-remove, get_same, get_other, other_key}
 use Rattle.core_model.specs.Script.{Play, Create, Discard, No_overwrite, Stage, Command, Destroy, Create_shader, Mark_query, Set_state, Turn, Refused, Passed, Flushed, Asked, Item, Script, InOrder, at_start, play_in_order, turn_in_order, in_order}
 use Rattle.core_model.proofs.Steps.Turning.{in_order-append}
 use Rattle.log_script.specs.Makers.{maker}

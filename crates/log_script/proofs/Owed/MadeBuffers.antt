@@ -6,7 +6,7 @@ use Rattle.dx_types.specs.declared.refusal.Refusal.{Refusal}
 use Rattle.dx_types.specs.declared.shape.Shape.{Shape}
 use Rattle.call_log.specs.Call as calls
 use Rattle.call_log.specs.Call.{Call, Issued}
-use Rattle.d3d_model.specs.IdMap.{get, remove}
+use Rattle.base_lemmas.specs.IdMap.{get, remove}
 use Rattle.d3d_model.specs.Check.{has, is_id}
 use Rattle.d3d_model.specs.Resource.{Buffers, usage_from}
 use Rattle.d3d_model.specs.D3dState.{Objects, calls_of_list}

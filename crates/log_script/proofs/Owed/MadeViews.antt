@@ -6,7 +6,7 @@ use Rattle.dx_types.specs.declared.shape.Shape.{Shape}
 use Rattle.dx_types.specs.declared.shape.ViewShape.{ViewShape}
 use Rattle.call_log.specs.Call as calls
 use Rattle.call_log.specs.Call.{Call, Issued}
-use Rattle.d3d_model.specs.IdMap.{IdMap}
+use Rattle.base_lemmas.specs.IdMap.{IdMap}
 use Rattle.d3d_model.specs.D3dState.{Objects, calls_of_list}
 use Rattle.d3d_model.specs.Past.{Past}
 use Rattle.d3d_model.specs.Verdict.{call_checks, described}

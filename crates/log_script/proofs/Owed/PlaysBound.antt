@@ -12,7 +12,7 @@ use Rattle.vk_types.specs.declared.command.Work.TheVariants as work
 use Rattle.vk_types.specs.Hazards.{is_touched, work_touches, cond_touches, groups_touches, slot_touch}
 use Rattle.call_log.specs.Call as calls
 use Rattle.call_log.specs.Call.{Call}
-use Rattle.d3d_model.specs.IdMap as ids
+use Rattle.base_lemmas.specs.IdMap as ids
 use Rattle.d3d_model.specs.Resource.{Buffers, size_of}
 use Rattle.d3d_model.specs.View.{view_range}
 use Rattle.d3d_model.specs.Binding as binding

@@ -8,7 +8,7 @@ use Rattle.dx_types.specs.declared.refusal.Refusal.{Refusal}
 use Rattle.dx_types.specs.declared.refusal.Refusal.TheVariants.{BadUsage}
 use Rattle.call_log.specs.Call as calls
 use Rattle.call_log.specs.Call.{Call, Issued}
-use Rattle.d3d_model.specs.IdMap.{IdMap, get, insert, remove}
+use Rattle.base_lemmas.specs.IdMap.{IdMap, get, insert, remove}
 use Rattle.d3d_model.specs.Check.{Check}
 use Rattle.d3d_model.specs.Binding.{holds_query}
 use Rattle.d3d_model.specs.D3dState.{Objects, Query, Numbered, context_of, bindings_of, calls_if, calls_of_list}
@@ -19,7 +19,7 @@ use Rattle.d3d_model.specs.Effect.{queries_after, played, played_all, list_start
 use Rattle.d3d_model.specs.InOrder.{State, unless_refused, verdict_in, after_call, after_calls}
 use Rattle.d3d_model.specs.Uses.{use_in}
 use Rattle.d3d_model.specs.ReplyText.{sort_if, query_value}
-use Rattle.d3d_model.proofs.Maps.{get-empty, get-remove, get_same, get_other, other_key}
+use Rattle.base_lemmas.proofs.Maps.{get-empty, get-remove, get_same, get_other, other_key}
 use Rattle.d3d_model.proofs.Checked.{Passed as AllPassed, free_id}
 use Rattle.d3d_model.proofs.Listed.{own_checks}
 use Rattle.core_model.specs.Script.{Set_state, Turn, Refused, Passed, Flushed, Asked, Item}

@@ -7,7 +7,7 @@ use Rattle.std.proofs.lemmas.Bool.{both_ways, not-false, eqb-true, eq-eqb, or_le
 use Rattle.dx_types.specs.declared.refusal.Refusal.{Refusal}
 use Rattle.call_log.specs.Call as calls
 use Rattle.call_log.specs.Call.{Call, Issued}
-use Rattle.d3d_model.specs.IdMap.{IdMap, empty, get, insert, remove}
+use Rattle.base_lemmas.specs.IdMap.{IdMap, empty, get, insert, remove}
 use Rattle.d3d_model.specs.Check.{is_id}
 use Rattle.d3d_model.specs.Binding.{Bindings, default_bindings}
 use Rattle.d3d_model.specs.D3dState.{Objects, Query, Numbered, Context, default_context, no_objects, context_of, bindings_of, with_bindings, calls_of_list}
@@ -16,7 +16,7 @@ use Rattle.d3d_model.specs.Stream.{names, is_name, list_names, begun_after, set_
 use Rattle.d3d_model.specs.Verdict.{is_live_query, is_begun_on, query_is_one, call_checks}
 use Rattle.d3d_model.specs.Effect.{queries_after, played, played_all, list_start, recorded_on, finished, objects_after}
 use Rattle.d3d_model.specs.InOrder.{State, unless_refused, verdict_in, after_call, after_calls}
-use Rattle.d3d_model.proofs.Maps.{get-empty, get-insert, get-remove, get_other}
+use Rattle.base_lemmas.proofs.Maps.{get-empty, get-insert, get-remove, get_other}
 use Rattle.d3d_model.proofs.Checked.{Passed}
 use Rattle.d3d_model.proofs.Listed.{ListLive, ListsLive, own_checks, lists_live}
 use Rattle.log_script.specs.Plays.{counts_invocations}

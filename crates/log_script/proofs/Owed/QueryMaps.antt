@@ -3,11 +3,11 @@ use Rattle.std.proofs.Common.{◌≡◌, ℕ, Bool, true, false, Option, Some, N
 use Rattle.std.proofs.lemmas.Bool.{cases_eq}
 use Rattle.call_log.specs.Call as calls
 use Rattle.call_log.specs.Call.{Call}
-use Rattle.d3d_model.specs.IdMap.{IdMap, get}
+use Rattle.base_lemmas.specs.IdMap.{IdMap, get}
 use Rattle.d3d_model.specs.D3dState.{Query}
 use Rattle.d3d_model.specs.Verdict.{query_is_one}
 use Rattle.d3d_model.specs.Effect.{begun_query, ended_query, queries_after}
-use Rattle.d3d_model.proofs.Maps.{get_same, get_other}
+use Rattle.base_lemmas.proofs.Maps.{get_same, get_other}
 use Rattle.log_script.specs.Plays.{counts_invocations}
 
 -- the query is begun

@@ -7,7 +7,7 @@ use Rattle.std.proofs.lemmas.Bool.{both_ways, cases_Bool, eq-eqb, ne_eqb, and_pa
 use Rattle.dx_types.specs.declared.range.Range.{Range}
 use Rattle.call_log.specs.Call as calls
 use Rattle.call_log.specs.Call.{Call}
-use Rattle.d3d_model.specs.IdMap.{IdMap, get}
+use Rattle.base_lemmas.specs.IdMap.{IdMap, get}
 use Rattle.d3d_model.specs.Binding.{Bindings}
 use Rattle.d3d_model.specs.D3dState.{Objects, Query}
 use Rattle.d3d_model.specs.Past.{Past}

@@ -3,7 +3,7 @@ use Rattle.std.proofs.Common.{◌≡◌, ℕ, ◌<◌, true, List, [], ◌∷◌
 use Rattle.std.specs.Prelude.{is_some, slice_set, slice_index_or}
 use Rattle.dx_types.specs.declared.shape.ViewShape.{ViewShape}
 use Rattle.call_log.specs.Call.{Call, Issued}
-use Rattle.d3d_model.specs.IdMap.{get}
+use Rattle.base_lemmas.specs.IdMap.{get}
 use Rattle.d3d_model.specs.Binding.{default_bindings}
 use Rattle.d3d_model.specs.D3dState.{Objects, Numbered, Context, default_context, buffer_of, context_of, bindings_of, calls_if, calls_of_list}
 use Rattle.d3d_model.specs.Past.{Past}

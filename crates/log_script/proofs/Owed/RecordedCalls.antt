@@ -6,13 +6,13 @@ use Rattle.std.specs.Ordering.{nat_cmp, eq_by_cmp}
 use Rattle.dx_types.specs.declared.refusal.Refusal.{Refusal}
 use Rattle.call_log.specs.Call as calls
 use Rattle.call_log.specs.Call.{Call, Issued}
-use Rattle.d3d_model.specs.IdMap.{empty, get}
+use Rattle.base_lemmas.specs.IdMap.{empty, get}
 use Rattle.d3d_model.specs.Binding.{Bindings, default_bindings}
 use Rattle.d3d_model.specs.D3dState.{Objects, Numbered, Context, default_context, context_of, bindings_of, with_bindings, calls_if, calls_of_list}
 use Rattle.d3d_model.specs.Stream.{set_by}
 use Rattle.d3d_model.specs.Effect.{destroyed, queries_after, played, played_all, list_start, recorded_on, finished, objects_after}
 use Rattle.d3d_model.specs.InOrder.{State, unless_refused, verdict_in, after_call, after_calls}
-use Rattle.d3d_model.proofs.Maps.{get-empty, get-insert}
+use Rattle.base_lemmas.proofs.Maps.{get-empty, get-insert}
 use Rattle.d3d_model.proofs.Listed.{set_at, one_value, contexts_if, lists_if}
 use Rattle.log_script.proofs.Owed.TurnStates.{all_both}
 

@@ -7,7 +7,7 @@ use Rattle.dx_types.specs.declared.refusal.Refusal.{Refusal}
 use Rattle.dx_types.specs.declared.refusal.Refusal.TheVariants.{WrongContext, TooMuchMemory}
 use Rattle.call_log.specs.Call as calls
 use Rattle.call_log.specs.Call.{Call, Issued}
-use Rattle.d3d_model.specs.IdMap.{get, remove, empty}
+use Rattle.base_lemmas.specs.IdMap.{get, remove, empty}
 use Rattle.d3d_model.specs.Check.{is_named}
 use Rattle.d3d_model.specs.Binding.{Bindings, default_bindings}
 use Rattle.d3d_model.specs.D3dState.{Objects, Numbered, Context, default_context, context_of, bindings_of, calls_if, calls_of_list}
@@ -16,7 +16,7 @@ use Rattle.d3d_model.specs.Stream.{set_by}
 use Rattle.d3d_model.specs.Verdict.{Place, OnDevice, OnImmediate, OnEach, OnDeferred, place_of, is_wrong_at, is_too_long, call_checks, verdict, has_shader}
 use Rattle.d3d_model.specs.Effect.{list_of, made_by, played, played_all, list_start, executed, recorded_on, finished, immediate_effect, effect_at}
 use Rattle.d3d_model.specs.InOrder.{State, unless_refused, verdict_in, after_call, after_calls}
-use Rattle.d3d_model.proofs.Maps.{get-empty}
+use Rattle.base_lemmas.proofs.Maps.{get-empty}
 use Rattle.d3d_model.proofs.Checked.{Passed, all_passed}
 use Rattle.d3d_model.proofs.Listed.{own_checks}
 use Rattle.log_script.proofs.Owed.BufferMakers.{one_removed}

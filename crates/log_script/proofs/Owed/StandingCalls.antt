@@ -6,7 +6,7 @@ use Rattle.dx_types.specs.declared.refusal.Refusal.{Refusal}
 use Rattle.dx_types.specs.declared.shape.Shape.{Shape}
 use Rattle.call_log.specs.Call as calls
 use Rattle.call_log.specs.Call.{Call, Issued}
-use Rattle.d3d_model.specs.IdMap.{empty, get}
+use Rattle.base_lemmas.specs.IdMap.{empty, get}
 use Rattle.d3d_model.specs.Resource.{Buffers, size_of}
 use Rattle.d3d_model.specs.D3dState.{Objects, Numbered, context_of}
 use Rattle.d3d_model.specs.Past.{Past}
@@ -14,7 +14,7 @@ use Rattle.d3d_model.specs.Stream.{list_names}
 use Rattle.d3d_model.specs.Verdict.{call_checks}
 use Rattle.d3d_model.specs.Effect.{played, recorded_on, objects_after}
 use Rattle.d3d_model.specs.InOrder.{State, unless_refused, verdict_in, after_call, after_calls}
-use Rattle.d3d_model.proofs.Maps.{get-empty}
+use Rattle.base_lemmas.proofs.Maps.{get-empty}
 use Rattle.d3d_model.proofs.Checked.{Passed}
 use Rattle.d3d_model.proofs.Listed.{ListsLive, lists_live, own_checks, left_of, opened_member, listed_member}
 use Rattle.d3d_model.proofs.Frozen.{Agrees, named_by}

@@ -4,7 +4,7 @@ use Rattle.std.specs.Prelude.{slice_set, if◌then◌else◌}
 use Rattle.std.specs.List.{list_any, AllByRecursion}
 use Rattle.call_log.specs.Call as calls
 use Rattle.call_log.specs.Call.{Call, Issued}
-use Rattle.vk_types.specs.Lists.{Pairwise}
+use Rattle.base_lemmas.specs.Lists.{Pairwise}
 use Rattle.d3d_model.specs.Binding.{Bindings, BoundView, default_bindings, is_beside, without, set_srv, set_uav}
 use Rattle.d3d_model.specs.D3dState.{Objects, bound_view}
 use Rattle.d3d_model.specs.Stream.{set_by}

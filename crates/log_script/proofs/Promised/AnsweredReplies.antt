@@ -7,7 +7,7 @@ use Rattle.dx_types.specs.declared.range.Range.{Range}
 use Rattle.dx_types.specs.declared.reply.Reply.TheVariants as said
 use Rattle.vk_types.specs.declared.op.VkOp.TheVariants as op
 use Rattle.vk_types.specs.Allowed.{IsAllowed, outcome}
-use Rattle.vk_types.specs.Lists.{numbers_from}
+use Rattle.base_lemmas.specs.Lists.{numbers_from}
 use Rattle.vk_types.specs.Memory.{Memory, byte_of}
 use Rattle.call_log.specs.Call.{Issued}
 use Rattle.d3d_model.specs.ReplyText.{none_pending, reply_at}

@@ -16,7 +16,7 @@ use Rattle.d3d_model.specs.Effect.{played, list_start}
 use Rattle.d3d_model.specs.InOrder.{State, verdict_in, before_call, call_at}
 use Rattle.d3d_model.specs.Uses.{use_in, use_unless, use_by, last_use}
 use Rattle.d3d_model.specs.ReplyText.{none_pending, answer_or_still, reply_unless, reply_to, reply_at}
-use Rattle.d3d_model.specs.IdMap.{get}
+use Rattle.base_lemmas.specs.IdMap.{get}
 use Rattle.core_model.specs.Script.{Ask, Turn, Refused, Passed, Flushed, Asked, Item}
 use Rattle.log_script.specs.Answered.{IsNoWait}
 use Rattle.log_script.specs.Turns.{item_of, list_items, turns_by_place, turns_unless, turns_in}

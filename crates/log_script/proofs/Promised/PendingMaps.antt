@@ -5,11 +5,11 @@ use Rattle.std.specs.List.{AllByRecursion, flat_map}
 use Rattle.std.specs.Ordering.{nat_cmp, eq_by_cmp}
 use Rattle.std.proofs.lemmas.Bool.Decides.{nat_tests}
 use Rattle.dx_types.specs.declared.reply.Reply.{Reply}
-use Rattle.vk_types.proofs.Lists.{all_append}
+use Rattle.base_lemmas.proofs.Lists.{all_append}
 use Rattle.call_log.specs.Call.{Issued}
-use Rattle.d3d_model.specs.IdMap.{get}
+use Rattle.base_lemmas.specs.IdMap.{get}
 use Rattle.d3d_model.specs.ReplyText.{none_pending, reply_at}
-use Rattle.d3d_model.proofs.Maps.{get-empty, get-insert}
+use Rattle.base_lemmas.proofs.Maps.{get-empty, get-insert}
 use Rattle.core_model.specs.CoreState.{Said, Bytes_said, Value_said, Still_said, Refused_said, End_said}
 use Rattle.core_model.specs.Runs.{pending_in}
 use Rattle.log_script.specs.RunText.{pending_map}

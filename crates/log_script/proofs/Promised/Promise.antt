@@ -8,9 +8,9 @@ use Rattle.dx_types.specs.declared.reply.Reply.TheVariants as said
 use Rattle.vk_types.specs.declared.op.VkOp.{VkOp}
 use Rattle.vk_types.specs.declared.op.VkOp.TheVariants as op
 use Rattle.vk_types.specs.Allowed.{IsAllowed, outcome}
-use Rattle.vk_types.specs.Lists.{numbers_from}
+use Rattle.base_lemmas.specs.Lists.{numbers_from}
 use Rattle.vk_types.proofs.Law.{law_of_covered}
-use Rattle.vk_types.proofs.Lists.{all_back}
+use Rattle.base_lemmas.proofs.Lists.{all_back}
 use Rattle.call_log.specs.Call.{Issued}
 use Rattle.d3d_model.specs.Uses.{last_use}
 use Rattle.d3d_model.specs.ReplyText.{none_pending, reply_at, lines, replies}

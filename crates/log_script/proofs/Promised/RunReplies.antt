@@ -10,11 +10,11 @@ use Rattle.dx_types.specs.declared.reply.Reply.{Reply}
 use Rattle.dx_types.specs.declared.reply.Reply.TheVariants as said
 use Rattle.call_log.specs.Call as calls
 use Rattle.call_log.specs.Call.{Call, Issued}
-use Rattle.d3d_model.specs.IdMap.{get}
+use Rattle.base_lemmas.specs.IdMap.{get}
 use Rattle.d3d_model.specs.InOrder.{State, verdict_in, before_call, call_at}
 use Rattle.d3d_model.specs.Uses.{use_unless, use_by}
 use Rattle.d3d_model.specs.ReplyText.{Pending, none_pending, answer, answer_or_still, reply_unless, reply_to, reply_at, replies_upto, replies}
-use Rattle.d3d_model.proofs.Maps.{get-empty}
+use Rattle.base_lemmas.proofs.Maps.{get-empty}
 use Rattle.core_model.specs.CoreState.{Said, Bytes_said, Value_said, Still_said, Refused_said, End_said, Core, start}
 use Rattle.core_model.specs.Readings.{Reading, Any_choices}
 use Rattle.core_model.specs.CoreStep.{Event, Chain}

@@ -7,7 +7,7 @@ use Rattle.vk_types.specs.declared.command.Cond.{Cond}
 use Rattle.vk_types.specs.declared.op.VkOp.TheVariants as op
 use Rattle.vk_types.specs.Effects.{Meaning}
 use Rattle.vk_types.specs.Memory.{range}
-use Rattle.vk_types.proofs.Lists.{all_append}
+use Rattle.base_lemmas.proofs.Lists.{all_append}
 use Rattle.core_model.specs.Script.{Play, Create, Discard, No_overwrite, Stage, Command, Destroy, Create_shader, Mark_query, Set_state, Ask, Bytes, Count, Constant, Turn, Refused, Passed, Flushed, Asked, Item, Script, padded}
 use Rattle.core_model.specs.Renaming.{block_of, range_on}
 use Rattle.core_model.specs.CoreState.{Core, start, Said, Bytes_said, Value_said, Still_said, Refused_said, End_said, taken_count, open_number, done}

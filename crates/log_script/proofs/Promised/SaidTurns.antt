@@ -10,7 +10,7 @@ use Rattle.d3d_model.specs.Verdict.{place_of}
 use Rattle.d3d_model.specs.Effect.{played, list_start}
 use Rattle.d3d_model.specs.InOrder.{State, verdict_in, after_calls}
 use Rattle.d3d_model.specs.ReplyText.{none_pending, answer, answer_or_still, reply_unless, reply_to, reply_at}
-use Rattle.d3d_model.proofs.Maps.{get-empty}
+use Rattle.base_lemmas.proofs.Maps.{get-empty}
 use Rattle.core_model.specs.Script.{Passed}
 use Rattle.log_script.specs.Turns.{item_of, list_items, turns_by_place, turns_unless, turns_in, turns_of}
 use Rattle.log_script.specs.LogScript.{turns_upto}

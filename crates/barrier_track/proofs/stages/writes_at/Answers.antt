@@ -1,6 +1,6 @@
 use Rattle.std.proofs.Common.{◌&&◌, sym, ◌∙◌}
 use Rattle.vk_types.specs.Hazards.{touches, same_stage, has_write}
-use Rattle.vk_types.proofs.Scan.{scan_hit, scan_miss, scan_none}
+use Rattle.base_lemmas.proofs.Scan.{scan_hit, scan_miss, scan_none}
 use Rattle.barrier_track.proofs.stages.writes_at.Goals as goal
 use Rattle.barrier_track.proofs.stages.writes_at.Goals.{in-Some+else-writes_there, in_default}
 

@@ -4,7 +4,7 @@ use Rattle.d3d_state.specs.Meaning.{objects_of}
 use Rattle.d3d_checks.proofs.Passes.{unended_verdict}
 use Rattle.std.proofs.Common.{List}
 use Rattle.d3d_model.specs.D3dState.{Numbered}
-use Rattle.d3d_model.proofs.Maps.{get-empty}
+use Rattle.base_lemmas.proofs.Maps.{get-empty}
 use Rattle.d3d_checks.proofs.Unasked.{unasked}
 use Rattle.d3d_checks.proofs.refusals.work_refusal.Goals as goal
 

@@ -1,7 +1,7 @@
 use Rattle.std.proofs.Common.{◌≡◌, List, refl, ap, ◌∙◌, arith}
 use Rattle.d3d_model.specs.Codes.{class_number}
 use Rattle.d3d_model.specs.D3dState.{Numbered}
-use Rattle.d3d_model.proofs.Maps.{get-empty}
+use Rattle.base_lemmas.proofs.Maps.{get-empty}
 use Rattle.d3d_checks.proofs.Classes.{other_class}
 use Rattle.d3d_checks.proofs.resources.destroy_refusal.Goals as goal
 

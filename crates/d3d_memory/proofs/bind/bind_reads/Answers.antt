@@ -1,5 +1,5 @@
 use Rattle.std.proofs.Common.{◌≡◌, List, ℕ, length, ap, sym, ◌∙◌, arith}
-use Rattle.shader_model.specs.Words.{words_of}
+use Rattle.base_lemmas.specs.ByteWords.{words_of}
 use Rattle.d3d_model.specs.Binding.{Bindings}
 use Rattle.d3d_model.specs.D3dState.{bindings_of}
 use Rattle.d3d_state.specs.Meaning.{objects_of}

@@ -1,6 +1,6 @@
 use Rattle.std.proofs.Common.{refl}
 use Rattle.shader_model.specs.Opcodes.{row_of}
-use Rattle.d3d_model.specs.IdMap.{empty, get, insert, remove, values}
+use Rattle.base_lemmas.specs.IdMap.{empty, get, insert, remove, values}
 use Rattle.d3d_model.specs.Regions.{put, filled, words_of, spelled}
 use Rattle.d3d_model.specs.Resource.{live_bytes, live_dynamic}
 use Rattle.d3d_model.specs.Binding.{constant_ranges, view_ranges}

@@ -1,5 +1,5 @@
 use Rattle.std.proofs.Common.{sym}
-use Rattle.shader_model.proofs.Goodness.{words_length}
+use Rattle.base_lemmas.proofs.ByteWords.{words_length}
 use Rattle.shader_slots.proofs.words.len.Goals as goal
 
 pub returns : goal.returns

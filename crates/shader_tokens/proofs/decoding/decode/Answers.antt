@@ -1,5 +1,5 @@
 use Rattle.std.proofs.Common.{◌≡◌, [], Some, length, ap, sym, ◌∙◌, arith, length-drop}
-use Rattle.shader_model.specs.Words.{words_of}
+use Rattle.base_lemmas.specs.ByteWords.{words_of}
 use Rattle.shader_model.specs.Items.{items_from}
 use Rattle.shader_model.specs.Faults.{items_fault, first_bad_of_bytes}
 use Rattle.shader_tokens.proofs.Judging.{end-bad}

@@ -1,9 +1,10 @@
 use Rattle.std.proofs.Common.{◌≡◌, ◌+◌, ◌<◌, ◌-◌, ◌≤◌, ◌∷◌, [], Some, ℕ, List, length, take, drop, refl, ap, sym, ◌∙◌, arith}
-use Rattle.shader_model.specs.Words.{words_of, count_in}
+use Rattle.shader_model.specs.Words.{count_in}
+use Rattle.base_lemmas.specs.ByteWords.{words_of}
 use Rattle.shader_model.specs.Items.{items_from}
 use Rattle.shader_model.specs.Faults.{items_fault}
 use Rattle.shader_tokens.proofs.Judging.{end-bad}
-use Rattle.shader_model.proofs.Goodness.{words_length}
+use Rattle.base_lemmas.proofs.ByteWords.{words_length}
 use Rattle.shader_tokens.proofs.Sofar.{none-read, one-more, bad-here, words-here, fewer}
 use Rattle.shader_tokens.proofs.decoding.read_items.Goals as goal
 

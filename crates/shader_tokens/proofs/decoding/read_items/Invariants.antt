@@ -1,5 +1,5 @@
 use Rattle.std.proofs.Common.{◌≤◌, ◌+◌, length}
-use Rattle.shader_model.specs.Words.{words_of}
+use Rattle.base_lemmas.specs.ByteWords.{words_of}
 use Rattle.shader_model.specs.Items.{items_from}
 use Rattle.shader_tokens.proofs.Sofar.{Sofar}
 use Rattle.shader_tokens.proofs.decoding.read_items.Given as goal

@@ -1,4 +1,4 @@
-use Rattle.shader_model.specs.Words.{words_of}
+use Rattle.base_lemmas.specs.ByteWords.{words_of}
 use Rattle.shader_tokens.specs.Decoding.{nothing, parts_at, gathered}
 use Rattle.shader_tokens.proofs.Gathering.{gathers-next}
 use Rattle.shader_tokens.proofs.gather.gather.Goals as goal

@@ -1,5 +1,5 @@
 use Rattle.std.proofs.Common.{◌≡◌, true, drop}
-use Rattle.shader_model.specs.Words.{words_of}
+use Rattle.base_lemmas.specs.ByteWords.{words_of}
 use Rattle.shader_tokens.specs.Decoding.{walks, parts_at, nothing, gathered}
 use Rattle.shader_tokens.proofs.gather.gather.Given as goal
 

@@ -1,5 +1,5 @@
 use Rattle.std.proofs.Common.{◌∙◌, ap}
-use Rattle.shader_model.specs.Words.{words_of}
+use Rattle.base_lemmas.specs.ByteWords.{words_of}
 use Rattle.shader_tokens.specs.Decoding.{item_of, nothing, parts_at, gathered}
 use Rattle.shader_tokens.proofs.Gathering.{statement-is}
 use Rattle.shader_tokens.proofs.gather.statement_of.Goals as goal

@@ -1,8 +1,8 @@
 use Rattle.std.proofs.Common.{◌∙◌, ap, sym, drop, length, ◌<◌, ◌≤◌, arith}
-use Rattle.shader_model.specs.Words.{words_of}
+use Rattle.base_lemmas.specs.ByteWords.{words_of}
 use Rattle.shader_tokens.specs.Decoding.{walks}
 use Rattle.shader_tokens.proofs.Bytes.{words-none}
-use Rattle.shader_model.proofs.Goodness.{words_length}
+use Rattle.base_lemmas.proofs.ByteWords.{words_length}
 use Rattle.shader_tokens.proofs.Gathering.{fits-next}
 use Rattle.shader_tokens.proofs.Walking.{walks-none}
 use Rattle.shader_tokens.proofs.item.fits.Goals as goal

@@ -1,6 +1,6 @@
 use Rattle.std.proofs.Common.{◌≡◌, ℕ, zero, suc, ◌<◌, ◌≤◌, true, List, [], ◌∷◌, length, take, refl, ap, subst, arith, take_all}
 use Rattle.vk_types.specs.declared.op.VkOp.{VkOp}
-use Rattle.vk_types.specs.Lists.{IsReordering}
+use Rattle.base_lemmas.specs.Lists.{IsReordering}
 use Rattle.vk_types.specs.Listing.{acts}
 use Rattle.vk_order.specs.Order.{is_new_at}
 use Rattle.vk_order.proofs.Acts.{AreNew, new_from, few_new, all_new, few_places, odd_place, too_short}

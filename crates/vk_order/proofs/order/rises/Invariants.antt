@@ -1,5 +1,5 @@
 use Rattle.std.proofs.Common.{◌<◌, take}
-use Rattle.vk_types.specs.Lists.{Pairwise}
+use Rattle.base_lemmas.specs.Lists.{Pairwise}
 use Rattle.vk_order.proofs.Rising.{AreBelow}
 use Rattle.vk_order.proofs.order.rises.Given as goal
 

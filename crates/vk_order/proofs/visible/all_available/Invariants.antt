@@ -1,5 +1,5 @@
 use Rattle.std.proofs.Common.{◌≡◌, true, take}
-use Rattle.vk_types.specs.Lists.{all_pass}
+use Rattle.base_lemmas.specs.Lists.{all_pass}
 use Rattle.vk_types.specs.Hazards.{touches}
 use Rattle.vk_order.specs.Asks.{is_available}
 use Rattle.vk_order.proofs.visible.all_available.Given as goal

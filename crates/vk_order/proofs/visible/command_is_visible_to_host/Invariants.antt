@@ -1,5 +1,5 @@
 use Rattle.std.proofs.Common.{◌≡◌, true, take}
-use Rattle.vk_types.specs.Lists.{all_pass}
+use Rattle.base_lemmas.specs.Lists.{all_pass}
 use Rattle.vk_types.specs.Hazards.{touches}
 use Rattle.vk_types.specs.Covered.{host_visible}
 use Rattle.vk_order.proofs.visible.command_is_visible_to_host.Given as goal

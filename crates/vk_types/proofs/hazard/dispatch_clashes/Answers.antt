@@ -2,7 +2,7 @@ use Rattle.std.proofs.Common.{◌||◌, map, sym, ap, ◌∙◌}
 use Rattle.std.specs.List.{list_any}
 use Rattle.std.proofs.lemmas.List.Folds.{list_any-append}
 use Rattle.vk_types.specs.Hazards.{groups_touches, slot_touch, touches_conflict}
-use Rattle.vk_types.proofs.Scan.{any_map}
+use Rattle.base_lemmas.proofs.Scan.{any_map}
 use Rattle.vk_types.proofs.hazard.dispatch_clashes.Goals as goal
 
 pub returns-else-clashes : goal.returns-else-clashes

@@ -1,7 +1,7 @@
 use Rattle.std.proofs.Common.{List, ℕ, ap, ◌∙◌}
 use Rattle.std.specs.Global.{Vec}
-use Rattle.d3d_model.specs.CodeMap.{map_of}
-use Rattle.d3d_model.proofs.CodeMaps.{map_of-nil}
+use Rattle.base_lemmas.specs.CodeMap.{map_of}
+use Rattle.base_lemmas.proofs.CodeMaps.{map_of-nil}
 use Rattle.d3d_memory.proofs.Kept.{items_of}
 use Rattle.d3d_memory.proofs.contents.Contents.new.Goals as goal
 

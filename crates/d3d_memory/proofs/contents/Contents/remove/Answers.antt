@@ -1,6 +1,6 @@
 use Rattle.std.proofs.Common.{ap, ◌∙◌}
-use Rattle.d3d_model.specs.IdMap.{remove}
-use Rattle.d3d_model.proofs.CodeMaps.{map_of-remove}
+use Rattle.base_lemmas.specs.IdMap.{remove}
+use Rattle.base_lemmas.proofs.CodeMaps.{map_of-remove}
 use Rattle.d3d_memory.specs.Contents.{Contents}
 use Rattle.d3d_memory.proofs.Kept.{items_of}
 use Rattle.d3d_memory.proofs.contents.Contents.remove.Goals as goal

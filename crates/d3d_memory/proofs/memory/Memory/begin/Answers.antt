@@ -1,5 +1,5 @@
 use Rattle.d3d_memory.proofs.Parts as parts
-use Rattle.d3d_model.proofs.CodeMaps.{map_of-insert}
+use Rattle.base_lemmas.proofs.CodeMaps.{map_of-insert}
 use Rattle.d3d_memory.proofs.memory.Memory.begin.Goals as goal
 
 pub returns-clause-ok : goal.returns-clause-ok

@@ -1,9 +1,9 @@
 use Rattle.d3d_memory.proofs.Parts as parts
 use Rattle.std.proofs.Common.{◌∙◌, ℕ, Option, ap}
 use Rattle.std.specs.Prelude.{unwrap_or}
-use Rattle.d3d_model.specs.IdMap.{IdMap, insert}
-use Rattle.d3d_model.specs.CodeMap.{map_of}
-use Rattle.d3d_model.proofs.CodeMaps.{map_of-insert}
+use Rattle.base_lemmas.specs.IdMap.{IdMap, insert}
+use Rattle.base_lemmas.specs.CodeMap.{map_of}
+use Rattle.base_lemmas.proofs.CodeMaps.{map_of-insert}
 use Rattle.d3d_memory.proofs.memory.Memory.end.Goals as goal
 
 pub returns-clause-ok : goal.returns-clause-ok

@@ -1,5 +1,5 @@
 use Rattle.d3d_memory.proofs.Parts as parts
-use Rattle.d3d_model.proofs.CodeMaps.{map_of-remove}
+use Rattle.base_lemmas.proofs.CodeMaps.{map_of-remove}
 use Rattle.d3d_memory.proofs.memory.Memory.forget_query.Goals as goal
 
 pub returns : goal.returns

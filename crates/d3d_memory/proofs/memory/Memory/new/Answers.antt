@@ -1,8 +1,8 @@
 use Rattle.std.proofs.Common.{◌≡◌, List, [], ℕ, ap, ◌∙◌}
-use Rattle.d3d_model.specs.IdMap.{IdMap, empty}
+use Rattle.base_lemmas.specs.IdMap.{IdMap, empty}
 use Rattle.d3d_model.specs.D3dState.{Memory}
-use Rattle.d3d_model.specs.CodeMap.{map_of}
-use Rattle.d3d_model.proofs.CodeMaps.{map_of-nil}
+use Rattle.base_lemmas.specs.CodeMap.{map_of}
+use Rattle.base_lemmas.proofs.CodeMaps.{map_of-nil}
 use Rattle.d3d_memory.specs.Contents.{Contents}
 use Rattle.d3d_memory.proofs.memory.Memory.new.Goals as goal
 

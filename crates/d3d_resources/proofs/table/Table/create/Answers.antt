@@ -1,10 +1,10 @@
 use Rattle.std.proofs.Common.{ap, sym, ◌∙◌}
 use Rattle.dx_types.specs.declared.shape.Shape.{Shape}
 use Rattle.d3d_model.specs.Check.{first_failed}
-use Rattle.d3d_model.specs.IdMap.{insert}
-use Rattle.d3d_model.specs.CodeMap.{map_of}
+use Rattle.base_lemmas.specs.IdMap.{insert}
+use Rattle.base_lemmas.specs.CodeMap.{map_of}
 use Rattle.d3d_model.specs.Resource.{Buffers}
-use Rattle.d3d_model.proofs.CodeMaps.{map_of-insert}
+use Rattle.base_lemmas.proofs.CodeMaps.{map_of-insert}
 use Rattle.d3d_resources.specs.Creation.{table_checks}
 use Rattle.d3d_resources.proofs.CheckOrder.{goes}
 use Rattle.d3d_resources.proofs.KeptTotals.{kept-insert}

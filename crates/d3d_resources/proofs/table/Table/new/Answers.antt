@@ -1,8 +1,8 @@
 use Rattle.std.proofs.Common.{List, ℕ, sym, ap, subst, ◌∙◌, ◌∷◌, []}
 use Rattle.dx_types.specs.declared.shape.Shape.{Shape}
-use Rattle.d3d_model.specs.CodeMap.{map_of}
+use Rattle.base_lemmas.specs.CodeMap.{map_of}
 use Rattle.d3d_model.specs.Resource.{Buffers}
-use Rattle.d3d_model.proofs.CodeMaps.{map_of-nil}
+use Rattle.base_lemmas.proofs.CodeMaps.{map_of-nil}
 use Rattle.d3d_resources.specs.Totals.{Kept}
 use Rattle.d3d_resources.proofs.KeptTotals.{kept-empty}
 use Rattle.d3d_resources.proofs.table.Table.new.Goals as goal

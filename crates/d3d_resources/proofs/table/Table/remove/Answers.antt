@@ -2,10 +2,10 @@ use Rattle.std.proofs.Common.{◌≤◌, Option, ap, sym, ◌∙◌, arith}
 use Rattle.std.specs.Option.{ok_or}
 use Rattle.dx_types.specs.declared.refusal.Refusal.TheVariants.{UnknownId}
 use Rattle.dx_types.specs.declared.shape.Shape.{Shape}
-use Rattle.d3d_model.specs.IdMap.{get, remove}
-use Rattle.d3d_model.specs.CodeMap.{map_of}
+use Rattle.base_lemmas.specs.IdMap.{get, remove}
+use Rattle.base_lemmas.specs.CodeMap.{map_of}
 use Rattle.d3d_model.specs.Resource.{Buffers}
-use Rattle.d3d_model.proofs.CodeMaps.{map_of-remove}
+use Rattle.base_lemmas.proofs.CodeMaps.{map_of-remove}
 use Rattle.d3d_resources.proofs.KeptTotals.{shape_at, live_bytes-remove, live_dynamic-remove, kept-remove}
 use Rattle.d3d_resources.proofs.table.Table.remove.Goals as goal
 

@@ -1,5 +1,5 @@
 use Rattle.std.proofs.Common.{ap, sym, ◌∙◌}
-use Rattle.d3d_model.specs.IdMap.{get}
+use Rattle.base_lemmas.specs.IdMap.{get}
 use Rattle.d3d_model.specs.Resource.{Buffers}
 use Rattle.d3d_resources.proofs.KeptTotals.{shape_at}
 use Rattle.d3d_resources.proofs.table.Table.shape.Goals as goal

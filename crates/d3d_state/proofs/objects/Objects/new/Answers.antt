@@ -1,6 +1,6 @@
 use Rattle.std.proofs.Common.{ap, List}
 use Rattle.d3d_model.specs.D3dState.{Context}
-use Rattle.d3d_model.specs.IdMap as ids
+use Rattle.base_lemmas.specs.IdMap as ids
 use Rattle.d3d_state.proofs.Unused.{unused_all}
 use Rattle.d3d_state.proofs.objects.Objects.new.Goals as goal
 

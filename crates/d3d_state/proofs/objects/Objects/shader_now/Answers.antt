@@ -1,5 +1,5 @@
 use Rattle.std.proofs.Common.{ap, ◌∙◌}
-use Rattle.d3d_model.specs.IdMap.{get}
+use Rattle.base_lemmas.specs.IdMap.{get}
 use Rattle.d3d_state.proofs.Spelled.{none_set}
 use Rattle.d3d_state.proofs.objects.Objects.shader_now.Goals as goal
 

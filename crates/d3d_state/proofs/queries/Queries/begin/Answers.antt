@@ -1,9 +1,9 @@
 use Rattle.std.proofs.Common.{ℕ, BTreeMap, true, Option, ap, sym, rules, ◌∙◌}
-use Rattle.d3d_model.specs.CodeMap.{map_of}
+use Rattle.base_lemmas.specs.CodeMap.{map_of}
 use Rattle.d3d_model.specs.D3dState.{Query}
 use Rattle.d3d_model.specs.Effect.{begun_query}
-use Rattle.d3d_model.specs.IdMap.{get, insert}
-use Rattle.d3d_model.proofs.CodeMaps.{map_of-insert}
+use Rattle.base_lemmas.specs.IdMap.{get, insert}
+use Rattle.base_lemmas.proofs.CodeMaps.{map_of-insert}
 use Rattle.d3d_state.specs.Codes.{Queries}
 use Rattle.d3d_state.specs.Sorts.{sort_number}
 use Rattle.d3d_state.specs.declared.queries.Queries.TheInside.{Inside}

@@ -1,7 +1,7 @@
 use Rattle.std.proofs.Common.{ap, ◌∙◌}
-use Rattle.d3d_model.specs.IdMap.{insert}
+use Rattle.base_lemmas.specs.IdMap.{insert}
 use Rattle.d3d_model.specs.D3dState.{Query}
-use Rattle.d3d_model.proofs.CodeMaps.{map_of-insert}
+use Rattle.base_lemmas.proofs.CodeMaps.{map_of-insert}
 use Rattle.d3d_state.specs.Codes.{Queries}
 use Rattle.d3d_state.proofs.queries.Queries.insert.Goals as goal
 

@@ -1,7 +1,7 @@
 use Rattle.std.proofs.Common.{List, ℕ, ap, ◌∙◌}
-use Rattle.d3d_model.specs.CodeMap.{map_of}
+use Rattle.base_lemmas.specs.CodeMap.{map_of}
 use Rattle.d3d_model.specs.D3dState.{Query}
-use Rattle.d3d_model.proofs.CodeMaps.{map_of-nil}
+use Rattle.base_lemmas.proofs.CodeMaps.{map_of-nil}
 use Rattle.d3d_state.proofs.queries.Queries.new.Goals as goal
 
 pub returns : goal.returns

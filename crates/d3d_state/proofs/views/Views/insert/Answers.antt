@@ -1,8 +1,8 @@
 use Rattle.std.proofs.Common.{ap, ◌∙◌, arith}
 use Rattle.dx_types.specs.declared.shape.ViewShape.{ViewShape}
-use Rattle.d3d_model.specs.CodeMap.{map_of}
-use Rattle.d3d_model.specs.IdMap.{get, insert}
-use Rattle.d3d_model.proofs.CodeMaps.{map_of-insert}
+use Rattle.base_lemmas.specs.CodeMap.{map_of}
+use Rattle.base_lemmas.specs.IdMap.{get, insert}
+use Rattle.base_lemmas.proofs.CodeMaps.{map_of-insert}
 use Rattle.d3d_state.specs.Codes.{Views}
 use Rattle.d3d_state.proofs.Counts.{views_of-few, counted-insert}
 use Rattle.d3d_state.proofs.views.Views.insert.Goals as goal

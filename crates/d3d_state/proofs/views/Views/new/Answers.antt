@@ -1,7 +1,7 @@
 use Rattle.std.proofs.Common.{List, ℕ, ap, ◌∙◌}
 use Rattle.dx_types.specs.declared.shape.ViewShape.{ViewShape}
-use Rattle.d3d_model.specs.CodeMap.{map_of}
-use Rattle.d3d_model.proofs.CodeMaps.{map_of-nil}
+use Rattle.base_lemmas.specs.CodeMap.{map_of}
+use Rattle.base_lemmas.proofs.CodeMaps.{map_of-nil}
 use Rattle.d3d_state.proofs.Counts.{counted-empty}
 use Rattle.d3d_state.proofs.views.Views.new.Goals as goal
 

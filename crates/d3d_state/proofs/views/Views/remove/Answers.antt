@@ -4,9 +4,9 @@ use Rattle.std.specs.Map.{lookup}
 use Rattle.std.specs.Ordering.{nat_cmp}
 use Rattle.std.specs.Prelude.{unwrap_or}
 use Rattle.dx_types.specs.declared.shape.ViewShape.{ViewShape}
-use Rattle.d3d_model.specs.CodeMap.{map_of}
-use Rattle.d3d_model.specs.IdMap.{get, remove}
-use Rattle.d3d_model.proofs.CodeMaps.{map_of-remove}
+use Rattle.base_lemmas.specs.CodeMap.{map_of}
+use Rattle.base_lemmas.specs.IdMap.{get, remove}
+use Rattle.base_lemmas.proofs.CodeMaps.{map_of-remove}
 use Rattle.d3d_state.specs.Codes.{Views}
 use Rattle.d3d_state.specs.Counted.{Counted}
 use Rattle.d3d_state.specs.declared.views.Views.TheInside.{Inside}

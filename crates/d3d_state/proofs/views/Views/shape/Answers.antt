@@ -1,5 +1,5 @@
 use Rattle.std.proofs.Common.{ap, sym, ◌∙◌}
-use Rattle.d3d_model.specs.IdMap.{get}
+use Rattle.base_lemmas.specs.IdMap.{get}
 use Rattle.d3d_state.specs.Codes.{Views}
 use Rattle.d3d_state.proofs.Found.{found}
 use Rattle.d3d_state.proofs.Counts.{fits_found}

@@ -1,6 +1,6 @@
 use Rattle.std.proofs.Common.{Some, sym, ap, subst, ◌∙◌}
 use Rattle.std.proofs.lemmas.Result.{on_ok_weaker, on_err_weaker}
-use Rattle.d3d_model.specs.IdMap.{get}
+use Rattle.base_lemmas.specs.IdMap.{get}
 use Rattle.d3d_uses.specs.Summary.{Uses, BindsMore, BindsAt}
 use Rattle.d3d_uses.specs.declared.held.Held.{Held}
 use Rattle.d3d_uses.proofs.Summaries.{found_some, put_in, is_found, kept_back, not_lent, kept_at, summarises-bound}

@@ -1,6 +1,6 @@
 use Rattle.std.proofs.Common.{[], ◌∷◌, None, true, sym, ap, subst, ◌∙◌}
 use Rattle.std.proofs.lemmas.Result.{on_ok_weaker}
-use Rattle.d3d_model.specs.IdMap.{get, insert}
+use Rattle.base_lemmas.specs.IdMap.{get, insert}
 use Rattle.d3d_model.specs.Past.{then_done, Discards}
 use Rattle.d3d_uses.specs.Summary.{Uses, Summarises}
 use Rattle.d3d_uses.specs.declared.held.Held.{Held}

@@ -1,5 +1,5 @@
 use Rattle.std.proofs.Common.{[], true, ap, ◌∙◌}
-use Rattle.d3d_model.specs.IdMap.{insert}
+use Rattle.base_lemmas.specs.IdMap.{insert}
 use Rattle.d3d_uses.specs.declared.held.Held.{Held}
 use Rattle.d3d_uses.proofs.Summaries.{put_in}
 use Rattle.d3d_uses.proofs.uses.Uses.discarded_first.Goals as goal

@@ -1,7 +1,7 @@
 use Rattle.std.proofs.Common.{◌≡◌, ◌-◌, ℕ, List, length, take, drop, ap, sym, ◌∙◌, arith, length-drop}
 use Rattle.std.proofs.Math.ListN.{set}
 use Rattle.std.proofs.lemmas.List.{with_items_is, length-take}
-use Rattle.shader_model.specs.Words.{words_of}
+use Rattle.base_lemmas.specs.ByteWords.{words_of}
 use Rattle.shader_slots.specs.Part.{Part, part_of}
 use Rattle.shader_slots.proofs.Parts.{over, length-over, part_over}
 use Rattle.shader_slots.proofs.whole.Whole.set_word.Goals as goal

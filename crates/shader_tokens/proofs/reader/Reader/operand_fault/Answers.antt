@@ -1,6 +1,6 @@
 use Rattle.std.proofs.Common.{◌∙◌, ap, take, drop, get_or, refl}
 use Rattle.shader_model.specs.declared.opcode.Kind.TheVariants.{Destination, Source, SlotWord}
-use Rattle.shader_model.specs.Words.{words_of}
+use Rattle.base_lemmas.specs.ByteWords.{words_of}
 use Rattle.shader_model.specs.Items.{more_of, source_more}
 use Rattle.shader_tokens.specs.Decoding.{said}
 use Rattle.shader_tokens.proofs.Judging.{kind-fault}

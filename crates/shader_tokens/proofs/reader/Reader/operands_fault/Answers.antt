@@ -1,5 +1,5 @@
 use Rattle.std.proofs.Common.{◌≡◌, ◌+◌, ◌≤◌, true, false, is_some, ap, ◌∙◌, arith}
-use Rattle.shader_model.specs.Words.{words_of}
+use Rattle.base_lemmas.specs.ByteWords.{words_of}
 use Rattle.shader_model.specs.Faults.{first_broken}
 use Rattle.shader_tokens.specs.Decoding.{said, rules_of, parts_at}
 use Rattle.shader_tokens.proofs.Judging.{left-room, left-next, left-found}

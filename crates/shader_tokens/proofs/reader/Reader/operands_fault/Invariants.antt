@@ -1,5 +1,5 @@
 use Rattle.std.proofs.Common.{◌+◌, drop}
-use Rattle.shader_model.specs.Words.{words_of}
+use Rattle.base_lemmas.specs.ByteWords.{words_of}
 use Rattle.shader_model.specs.Faults.{first_broken}
 use Rattle.shader_tokens.specs.Decoding.{said, rules_of, parts_at}
 use Rattle.shader_tokens.proofs.Judging.{Left}

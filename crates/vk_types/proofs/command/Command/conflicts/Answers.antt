@@ -1,7 +1,7 @@
 use Rattle.std.proofs.Common.{sym, ◌∙◌}
 use Rattle.std.specs.List.{list_any}
 use Rattle.vk_types.specs.Hazards.{touches, touches_conflict}
-use Rattle.vk_types.proofs.Scan.{scan_hit, scan_miss, scan_none}
+use Rattle.base_lemmas.proofs.Scan.{scan_hit, scan_miss, scan_none}
 use Rattle.vk_types.proofs.command.Command.conflicts.Goals as goal
 use Rattle.vk_types.proofs.command.Command.conflicts.Goals.{in-Some+else-clashes, in_default}
 

@@ -1,6 +1,6 @@
 use Rattle.std.proofs.Common.{sym, ◌∙◌}
 use Rattle.vk_types.specs.Hazards.{touches, same_stage}
-use Rattle.vk_types.proofs.Scan.{scan_hit, scan_miss, scan_none}
+use Rattle.base_lemmas.proofs.Scan.{scan_hit, scan_miss, scan_none}
 use Rattle.vk_types.proofs.command.Command.touches_at.Goals as goal
 use Rattle.vk_types.proofs.command.Command.touches_at.Goals.{in-Some+else-is, in_default}
 

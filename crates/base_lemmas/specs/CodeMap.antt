@@ -1,6 +1,6 @@
 -- Ordered maps of the code, seen as maps from ids.
 use Rattle.std.specs.Prelude.{ℕ, List, [], ◌∷◌}
-use Rattle.d3d_model.specs.IdMap.{IdMap, empty, insert}
+use Rattle.base_lemmas.specs.IdMap.{IdMap, empty, insert}
 
 -- the map that these entries make, each value as a view shows it
 unfoldable pub map_of : {X Y : Type 0} → (X → Y) → List (ℕ × X) → IdMap Y

@@ -1,0 +1,4 @@
+pub mod Lists
+pub mod IdMap
+pub mod CodeMap
+pub mod ByteWords
