@@ -6,6 +6,10 @@ pub const MAX_INPUT: u64 = 67_108_864;
 pub const MAX_ID: u32 = 65_535;
 /// The deferred contexts, 1 to this one. Context 0 is the immediate one.
 pub const DEFERRED_CONTEXTS: u16 = 16;
+/// The most bytes of a listing that is audited.
+pub const MAX_LISTING: u64 = 134_217_728;
+/// The most rounds of a generated log.
+pub const MAX_ROUNDS: u32 = 100_000;
 /// The most calls of a command list.
 pub const MAX_LIST_CALLS: usize = 65_536;
 
@@ -73,6 +77,8 @@ pub const LOOP_TURNS: u32 = 4_096;
 
 /// The classes of blocks. Those of class `c` have 256 × 4^c bytes.
 pub const CLASSES: usize = 8;
+/// The bytes of a block of class 0.
+pub const LEAST_BLOCK: u64 = 256;
 /// The blocks of a class, and the places of the board for them.
 pub const CLASS_BLOCKS: usize = 64;
 /// The most entries of a chunk.
