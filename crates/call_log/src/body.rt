@@ -1,5 +1,5 @@
 ghost use Rattle.std.specs.Prelude.{◌≡◌, ◌+◌, ◌*◌, ◌≤◌, ◌<◌, length, drop};
-ghost use Rattle.call_log.specs.Body.{word, fits, fits_layout, layout};
+ghost use Rattle.call_log.specs.Body.{word, fits_known, fits_layout, layout};
 ghost use Rattle.call_log.specs.declared.kinds.Layout.TheVariants.{Counted};
 
 use crate::kinds::Layout;
@@ -13,11 +13,11 @@ pub(crate) fn layout_of(kind: u16) -> Option<Layout>
     Some(kind_numbered(kind)?.layout)
 }
 
-/// Whether a body's length fits its kind.
-pub(crate) fn body_fits(kind: u16, body: &[u8]) -> bool
-    ensures { result ≡ fits kind body.now }
+/// Whether a body's length fits a layout; it fits none that is missing.
+pub(crate) fn fits_known(shape: Option<Layout>, body: &[u8]) -> bool
+    ensures { result ≡ fits_known shape body.now }
 {
-    match layout_of(kind) {
+    match shape {
         None => false,
         Some(shape) => shape_fits(shape, body),
     }

@@ -1,7 +1,7 @@
 ghost use Rattle.std.specs.Prelude.{◌≡◌, ◌+◌, ◌<◌, ◌≤◌, ◌^◌, length};
-ghost use Rattle.call_log.specs.Grammar.{head_at, header_fault, end_parts, is_kind};
+ghost use Rattle.call_log.specs.Grammar.{head_at, header_fault, end_parts};
 
-use crate::body::{body_fits, layout_of};
+use crate::body::{fits_known, layout_of};
 use crate::fault::{Head, LogFault, LogKind};
 use byteorder::{ByteOrder, LittleEndian};
 
@@ -29,7 +29,8 @@ pub(crate) fn head_of(at: u64, rest: &[u8]) -> Head
     }
     let kind = LittleEndian::read_u16(rest);
     let context = LittleEndian::read_u16(&rest[2..]);
-    if !is_kind(kind) {
+    let shape = layout_of(kind);
+    if !(kind == 0 || shape.is_some()) {
         return Head::Broken(LogFault {
             at,
             kind: LogKind::UnknownKind,
@@ -45,7 +46,7 @@ pub(crate) fn head_of(at: u64, rest: &[u8]) -> Head
     if kind == 0 {
         return end_of(at, context, len, rest.len());
     }
-    if body_fits(kind, &rest[8..8 + len]) {
+    if fits_known(shape, &rest[8..8 + len]) {
         Head::Whole
     } else {
         Head::Broken(LogFault {
@@ -53,13 +54,6 @@ pub(crate) fn head_of(at: u64, rest: &[u8]) -> Head
             kind: LogKind::BodyLength,
         })
     }
-}
-
-// Whether a record of this kind may stand in a log.
-fn is_kind(kind: u16) -> bool
-    ensures { result ≡ is_kind kind }
-{
-    kind == 0 || layout_of(kind).is_some()
 }
 
 // What a record of kind 0 is.
