@@ -9,7 +9,8 @@ use Rattle.atomic_table.proofs.Lists.{set_again}
 use Rattle.buffer_blocks.specs.declared.block.Block.{Block}
 use Rattle.buffer_blocks.specs.Block.{bytes_of}
 use Rattle.slice_board.specs.declared.rule.Hand.{Hand}
-use Rattle.slice_board.specs.Hands.{class_len, home_of, looked, holding, holding_taken, released, with_read, with_done, newcomer}
+use Rattle.dx_types.specs.Classes.{class_length}
+use Rattle.slice_board.specs.Hands.{home_of, looked, holding, holding_taken, released, with_read, with_done, newcomer}
 use Rattle.slice_board.specs.Rule.{Cells, done_of, home_at, IsPlace, vacant, busy, free, IsSeated, IsSound}
 use Rattle.slice_board.specs.Steps.{Mine, PoolHas, PoolHasSome, Takes, Finds, TriesTake, Reserves, TriesGive, Empties, Fills, KnowsDone, Reads, Raises}
 use Rattle.slice_board.proofs.Words.{cleared_free, cleared_else}
@@ -71,7 +72,7 @@ empties slots id k x me kb holds slot s ok _ at fits = let v = me.0 in (
   λ j e. (refl, ap (λ (i : ℕ). released v i None) (same_place k j e)),
 )
 
-pub fills : (slots id k x : ℕ) (me : Mine) (b : Block) → k < 512 → me.0.held ≡ Some k → me.1 ≡ (k, Some b) ∷ rest me.1 → x ≡ 3 + 4 * b.retired → b.retired ≤ me.0.read → length (bytes_of b) ≡ class_len (k / 64)
+pub fills : (slots id k x : ℕ) (me : Mine) (b : Block) → k < 512 → me.0.held ≡ Some k → me.1 ≡ (k, Some b) ∷ rest me.1 → x ≡ 3 + 4 * b.retired → b.retired ≤ me.0.read → length (bytes_of b) ≡ class_length (k / 64)
     → Allows IsSound slots id me (k + 1) (λ _. x) (Fills (step slots (k + 1) x 0 none) me)
 fills slots id k x me b kb holds slot is low len s ok _ at fits = let v = me.0 in let old = ok.seats id v at in (
   released v k (Some b),

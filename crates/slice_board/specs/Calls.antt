@@ -8,7 +8,8 @@ use Rattle.slice_board.specs.declared.rule.Pool.{Pool}
 use Rattle.slice_board.specs.declared.rule.Hand.{Hand}
 use Rattle.slice_board.specs.declared.board.Take.{Take}
 use Rattle.slice_board.specs.declared.board.Take.TheVariants.{Got, NoneFree}
-use Rattle.slice_board.specs.Hands.{class_len, home_of, looked, passed, having_taken, having_given, with_done}
+use Rattle.dx_types.specs.Classes.{class_length}
+use Rattle.slice_board.specs.Hands.{home_of, looked, passed, having_taken, having_given, with_done}
 use Rattle.slice_board.specs.Steps.{PoolHas, PoolHasSome, KnowsDone}
 
 -- a seat: of which board, and what it knows
@@ -37,7 +38,7 @@ pub record NotTakenAt (k : ℕ) (before after : Hand) : Type 0 where
 pub record TakenAt (k : ℕ) (b : Block) (before after : Hand) : Type 0 where
   pub read : ℕ
   pub hand : after ≡ having_taken before k b.retired read
-  pub len : length (bytes_of b) ≡ class_len (k / CLASS_BLOCKS)
+  pub len : length (bytes_of b) ≡ class_length (k / CLASS_BLOCKS)
   pub retired : b.retired ≤ read
   pub done : KnowsDone read before
   pub home : PoolHas before k (Some b)
@@ -79,7 +80,7 @@ pub record Taken (class : ℕ) (b : Block) (before after : Hand) : Type 0 where
   pub others : FoundNone (CLASS_BLOCKS * class) place before passed_over
   pub read : ℕ
   pub hand : after ≡ having_taken passed_over (CLASS_BLOCKS * class + place) b.retired read
-  pub len : length (bytes_of b) ≡ class_len class
+  pub len : length (bytes_of b) ≡ class_length class
   pub retired : b.retired ≤ read
   pub done : KnowsDone read before
   pub home : PoolHas before (CLASS_BLOCKS * class + place) (Some b)

@@ -1,13 +1,9 @@
 -- What a seat of the board knows, and what changes it.
-use Rattle.std.specs.Prelude.{ℕ, ◌*◌, ◌^◌, max, List, [], ◌∷◌, ◌++◌, replicate, Option, Some, None, slice_index_or, slice_set}
+use Rattle.std.specs.Prelude.{ℕ, max, List, [], ◌∷◌, ◌++◌, replicate, Option, Some, None, slice_index_or, slice_set}
 use Rattle.std.specs.Option.{option_map}
 use Rattle.buffer_blocks.specs.declared.block.Block.{Block}
 use Rattle.slice_board.specs.declared.rule.Pool.{Pool}
 use Rattle.slice_board.specs.declared.rule.Hand.{Hand}
-
--- the bytes of a block of this class
-abbrev pub class_len : ℕ → ℕ
-class_len c = 256 * 4 ^ c
 
 -- the block at home at this place
 abbrev pub home_of : Pool → ℕ → Option Block

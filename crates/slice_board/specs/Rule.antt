@@ -9,7 +9,8 @@ use Rattle.buffer_blocks.specs.declared.block.Block.{Block}
 use Rattle.buffer_blocks.specs.Block.{bytes_of}
 use Rattle.slice_board.specs.declared.rule.Pool.{Pool}
 use Rattle.slice_board.specs.declared.rule.Hand.{Hand}
-use Rattle.slice_board.specs.Hands.{class_len, home_of}
+use Rattle.dx_types.specs.Classes.{class_length}
+use Rattle.slice_board.specs.Hands.{home_of}
 
 abbrev pub Cells : Type 0
 Cells = State (Option Block) Hand
@@ -24,7 +25,7 @@ home_at s k = get_elem? s.homes k
 -- the block fits the place
 pub record IsHome (done k : ℕ) (b : Block) : Type 0 where
   pub retired : b.retired ≤ done
-  pub len : length (bytes_of b) ≡ class_len (k / CLASS_BLOCKS)
+  pub len : length (bytes_of b) ≡ class_length (k / CLASS_BLOCKS)
 
 -- the word w and the slot h of the place k agree
 pub data IsPlace (done k w : ℕ) (h : Maybe (Maybe (Option Block))) : Type 0 where

@@ -6,7 +6,8 @@ use Rattle.buffer_blocks.specs.declared.block.Block.{Block}
 use Rattle.buffer_blocks.specs.Block.{bytes_of}
 use Rattle.slice_board.specs.declared.rule.Pool.{Pool}
 use Rattle.slice_board.specs.declared.rule.Hand.{Hand}
-use Rattle.slice_board.specs.Hands.{class_len, home_of, looked, holding, holding_taken, released, with_read, with_done}
+use Rattle.dx_types.specs.Classes.{class_length}
+use Rattle.slice_board.specs.Hands.{home_of, looked, holding, holding_taken, released, with_read, with_done}
 
 abbrev pub Mine : Type 0
 Mine = Me (Option Block) Hand
@@ -25,7 +26,7 @@ pub record Takes (k found : ℕ) (before after : Mine) : Type 0 where
   pub block : Block
   pub slot : after.1 ≡ (k, Some block) ∷ before.1
   pub hand : after.0 ≡ holding_taken before.0 k block.retired
-  pub len : length (bytes_of block) ≡ class_len (k / CLASS_BLOCKS)
+  pub len : length (bytes_of block) ≡ class_length (k / CLASS_BLOCKS)
   pub pool : PoolHas before.0 k (Some block)
 
 pub record Finds (k found : ℕ) (before after : Mine) : Type 0 where

@@ -1,6 +1,7 @@
 ghost use Rattle.std.specs.Prelude.{◌≡◌, ◌≢◌, ℕ, ◌+◌, ◌*◌, ◌/◌, ◌%◌, ◌^◌, ◌<◌, ◌≤◌, length, Some, None, IfOk, IfErr, OnOk, OnErr, MatchResult, MatchOption};
 ghost use Rattle.buffer_blocks.specs.Block.{bytes_of};
-ghost use Rattle.slice_board.specs.Hands.{class_len, newcomer, empty_pool, with_read};
+ghost use Rattle.dx_types.specs.Classes.{class_length};
+ghost use Rattle.slice_board.specs.Hands.{newcomer, empty_pool, with_read};
 ghost use Rattle.slice_board.specs.Steps.{KnowsDone};
 ghost use Rattle.slice_board.specs.Calls.{TakeGives, Given, FoundFull, TakenAt, NotTakenAt, GivenAt, NotGivenAt, Raised};
 ghost use Rattle.dx_types.specs.declared.limits.TheConstants.{CLASSES};
@@ -145,7 +146,7 @@ impl Board {
     fn give_at(&self, seat: &mut BoardSeat, place: usize, block: Block) -> Result<(), Block>
         requires board { seat.old.board ≡ self.now }
         requires place { place < 512 }
-        requires len { length (bytes_of block) ≡ class_len (place / CLASS_BLOCKS) }
+        requires len { length (bytes_of block) ≡ class_length (place / CLASS_BLOCKS) }
         requires retired { block.retired ≤ seat.old.hand.read }
         ensures board { seat.new.board ≡ self.now }
         ensures given { MatchResult result (λ _. GivenAt place block seat.old.hand seat.new.hand) (λ b. (b ≡ block) × NotGivenAt place seat.old.hand seat.new.hand) }
@@ -185,7 +186,7 @@ impl Board {
     pub fn give(&self, seat: &mut BoardSeat, class: usize, block: Block) -> Result<(), Block>
         requires board { seat.old.board ≡ self.now }
         requires class { class < CLASSES }
-        requires len { length (bytes_of block) ≡ class_len class }
+        requires len { length (bytes_of block) ≡ class_length class }
         requires retired { block.retired ≤ seat.old.hand.read }
         ensures board { seat.new.board ≡ self.now }
         ensures given { OnOk result (Given class block seat.old.hand seat.new.hand) }
