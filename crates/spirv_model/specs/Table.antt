@@ -1,7 +1,6 @@
 -- The table of the instructions: the opcode and the operands of each, both ways.
 use Rattle.std.specs.Prelude.{ℕ, ◌==◌, if◌then◌else◌, Bool, true, ◌&&◌, nat_le, List, [], ◌∷◌, length, find, Option, Some, None, option_map}
 use Rattle.spirv_model.specs.declared.opcodes.TheConstants as opcodes
-use Rattle.spirv_model.specs.declared.table.TheConstants.{ROWS}
 use Rattle.spirv_model.specs.declared.code.Opcode.{Opcode}
 use Rattle.spirv_model.specs.declared.code.Opcode.TheVariants as opcode
 use Rattle.spirv_model.specs.declared.code.Row.{Row}
@@ -200,7 +199,72 @@ row n o = record { number = n; opcode = o }
 
 -- the table, by rising number
 abbrev pub rows : List Row
-rows = ROWS
+rows =
+    row opcodes.MEMORY_MODEL opcode.MemoryModel
+    ∷ row opcodes.ENTRY_POINT opcode.EntryPoint
+    ∷ row opcodes.EXECUTION_MODE opcode.ExecutionMode
+    ∷ row opcodes.CAPABILITY opcode.Capability
+    ∷ row opcodes.TYPE_VOID opcode.TypeVoid
+    ∷ row opcodes.TYPE_BOOL opcode.TypeBool
+    ∷ row opcodes.TYPE_INT opcode.TypeInt
+    ∷ row opcodes.TYPE_VECTOR opcode.TypeVector
+    ∷ row opcodes.TYPE_RUNTIME_ARRAY opcode.TypeRuntimeArray
+    ∷ row opcodes.TYPE_STRUCT opcode.TypeStruct
+    ∷ row opcodes.TYPE_POINTER opcode.TypePointer
+    ∷ row opcodes.TYPE_FUNCTION opcode.TypeFunction
+    ∷ row opcodes.CONSTANT opcode.Constant
+    ∷ row opcodes.FUNCTION opcode.Function
+    ∷ row opcodes.FUNCTION_END opcode.FunctionEnd
+    ∷ row opcodes.VARIABLE opcode.Variable
+    ∷ row opcodes.LOAD opcode.Load
+    ∷ row opcodes.STORE opcode.Store
+    ∷ row opcodes.ACCESS_CHAIN opcode.AccessChain
+    ∷ row opcodes.DECORATE opcode.Decorate
+    ∷ row opcodes.MEMBER_DECORATE opcode.MemberDecorate
+    ∷ row opcodes.COMPOSITE_EXTRACT opcode.CompositeExtract
+    ∷ row opcodes.S_NEGATE (opcode.Unary unary.Negate)
+    ∷ row opcodes.I_ADD (opcode.Binary binary.Add)
+    ∷ row opcodes.I_SUB (opcode.Binary binary.Subtract)
+    ∷ row opcodes.I_MUL (opcode.Binary binary.Multiply)
+    ∷ row opcodes.U_DIV (opcode.Binary binary.Divide)
+    ∷ row opcodes.U_MOD (opcode.Binary binary.Modulo)
+    ∷ row opcodes.U_MUL_EXTENDED (opcode.Binary binary.WideMultiply)
+    ∷ row opcodes.S_MUL_EXTENDED (opcode.Binary binary.SignedWideMultiply)
+    ∷ row opcodes.LOGICAL_AND (opcode.Binary binary.LogicalAnd)
+    ∷ row opcodes.LOGICAL_NOT (opcode.Unary unary.LogicalNot)
+    ∷ row opcodes.SELECT opcode.Select
+    ∷ row opcodes.I_EQUAL (opcode.Binary binary.Equal)
+    ∷ row opcodes.I_NOT_EQUAL (opcode.Binary binary.NotEqual)
+    ∷ row opcodes.U_GREATER_THAN_EQUAL (opcode.Binary binary.GreaterEqual)
+    ∷ row opcodes.S_GREATER_THAN_EQUAL (opcode.Binary binary.SignedGreaterEqual)
+    ∷ row opcodes.U_LESS_THAN (opcode.Binary binary.Less)
+    ∷ row opcodes.S_LESS_THAN (opcode.Binary binary.SignedLess)
+    ∷ row opcodes.SHIFT_RIGHT_LOGICAL (opcode.Binary binary.ShiftRight)
+    ∷ row opcodes.SHIFT_RIGHT_ARITHMETIC (opcode.Binary binary.SignedShiftRight)
+    ∷ row opcodes.SHIFT_LEFT_LOGICAL (opcode.Binary binary.ShiftLeft)
+    ∷ row opcodes.BITWISE_OR (opcode.Binary binary.BitOr)
+    ∷ row opcodes.BITWISE_XOR (opcode.Binary binary.BitXor)
+    ∷ row opcodes.BITWISE_AND (opcode.Binary binary.BitAnd)
+    ∷ row opcodes.NOT (opcode.Unary unary.Complement)
+    ∷ row opcodes.BIT_REVERSE (opcode.Unary unary.BitReverse)
+    ∷ row opcodes.BIT_COUNT (opcode.Unary unary.BitCount)
+    ∷ row opcodes.ATOMIC_EXCHANGE (opcode.Atomic atomic.Exchange)
+    ∷ row opcodes.ATOMIC_COMPARE_EXCHANGE opcode.AtomicCompareExchange
+    ∷ row opcodes.ATOMIC_I_ADD (opcode.Atomic atomic.Add)
+    ∷ row opcodes.ATOMIC_S_MIN (opcode.Atomic atomic.SignedMin)
+    ∷ row opcodes.ATOMIC_U_MIN (opcode.Atomic atomic.UnsignedMin)
+    ∷ row opcodes.ATOMIC_S_MAX (opcode.Atomic atomic.SignedMax)
+    ∷ row opcodes.ATOMIC_U_MAX (opcode.Atomic atomic.UnsignedMax)
+    ∷ row opcodes.ATOMIC_AND (opcode.Atomic atomic.And)
+    ∷ row opcodes.ATOMIC_OR (opcode.Atomic atomic.Or)
+    ∷ row opcodes.ATOMIC_XOR (opcode.Atomic atomic.Xor)
+    ∷ row opcodes.LOOP_MERGE opcode.LoopMerge
+    ∷ row opcodes.SELECTION_MERGE opcode.SelectionMerge
+    ∷ row opcodes.LABEL opcode.Label
+    ∷ row opcodes.BRANCH opcode.Branch
+    ∷ row opcodes.BRANCH_CONDITIONAL opcode.BranchConditional
+    ∷ row opcodes.RETURN opcode.Return
+    ∷ []
 
 -- the opcode of a number, None where the table doesn't have it
 unfoldable pub opcode_of : ℕ → Option Opcode

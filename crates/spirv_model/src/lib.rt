@@ -7,6 +7,7 @@ mod code;
 pub mod decorations;
 mod fault;
 pub mod header;
+pub mod limits;
 mod merge;
 mod op;
 pub mod opcodes;

@@ -7,6 +7,7 @@ use Rattle.shader_model.specs.declared.ids.Ids.{Ids}
 use Rattle.shader_model.specs.Invocation.{Slots}
 use Rattle.spirv_model.specs.Op.{Op}
 use Rattle.spirv_model.specs.Op as op
+use Rattle.spirv_model.specs.declared.limits.TheConstants.{STEPS_A_WORD}
 use Rattle.spirv_model.specs.declared.storage_classes.TheConstants as class
 use Rattle.spirv_model.specs.Operands.{Verdict}
 use Rattle.spirv_model.specs.FirstBad.{Reading, reading}
@@ -118,7 +119,7 @@ reading_of words = reading (length (behind_header words)) (behind_header words)
 
 -- how many instructions may be run
 abbrev pub limit_of : List ℕ → ℕ
-limit_of words = 8192 * length words
+limit_of words = STEPS_A_WORD * length words
 
 -- the slots' words after one invocation of the module
 unfoldable pub module_meaning : (words : List ℕ) → Ids → Slots → Option Slots
