@@ -14,3 +14,4 @@ pub mod Following
 pub mod Messaging
 pub mod Copies
 pub mod BytesInTurn
+pub mod BatchesInTurn

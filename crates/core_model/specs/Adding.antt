@@ -2,6 +2,7 @@
 use Rattle.std.specs.Prelude.{ℕ, suc, ◌+◌, Bool, cond, not, max, ◌&&◌, ◌==◌, nat_le, List, [], ◌∷◌, ◌++◌, Option, Some, None}
 use Rattle.std.specs.List.{list_any}
 use Rattle.dx_types.specs.declared.range.Range.{Range}
+use Rattle.dx_types.specs.Classes.{class_length}
 use Rattle.vk_types.specs.declared.command.Work.{Work}
 use Rattle.vk_types.specs.declared.command.Cond.{Cond}
 use Rattle.vk_types.specs.declared.message.Placed.{Placed}
@@ -12,7 +13,7 @@ use Rattle.vk_types.specs.BarrierCauses.{barrier_before, since_barrier, maybe_ba
 use Rattle.vk_types.specs.Entries.{Entry}
 use Rattle.core_model.specs.Script.{Turn, Script, updated}
 use Rattle.core_model.specs.Renaming.{BlockMap, block_of, range_on, cond_on}
-use Rattle.core_model.specs.CoreState.{Page, Owner, Unmade, Home, Returning, Spare, Live, Retired, Paged, Dropped, class_length, Pool, Said, Core, taken_count, open_number}
+use Rattle.core_model.specs.CoreState.{Page, Owner, Unmade, Home, Returning, Spare, Live, Retired, Paged, Dropped, Pool, Said, Core, taken_count, open_number}
 use Rattle.core_model.specs.Owners.{nothing_bound, bind_owner, is_block}
 use Rattle.core_model.specs.Placing.{Staged}
 use Rattle.vk_types.specs.declared.command.Work.TheVariants as work

@@ -3,6 +3,7 @@ use Rattle.std.specs.Prelude.{◌≡◌, ℕ, ◌+◌, ◌<◌, ◌≤◌, Bool,
 use Rattle.std.specs.List.{list_any, AllByRecursion}
 use Rattle.dx_types.specs.declared.range.Range.{Range}
 use Rattle.dx_types.specs.declared.limits.TheConstants.{CLASSES, MAX_BUFFER_SIZE, MAX_DYNAMIC_OF_CLASS}
+use Rattle.dx_types.specs.Classes.{class_length}
 use Rattle.vk_types.specs.declared.access.Stage.TheVariants as stage
 use Rattle.vk_types.specs.declared.touch.Touch.{Touch}
 use Rattle.vk_types.specs.declared.message.QueryMark.{QueryMark}
@@ -12,7 +13,6 @@ use Rattle.vk_types.specs.Hazards.{touch, write_access, work_touches, cond_touch
 use Rattle.vk_types.specs.Effects.{Meaning}
 use Rattle.core_model.specs.Script.{Play, Create, Discard, No_overwrite, Stage, Command, Destroy, Create_shader, Mark_query, Set_state, Ask, Bytes, Count, Constant, Turn, Refused, Passed, Flushed, Asked, Item, Script, at_start, in_order}
 use Rattle.core_model.specs.Chunking.{call_of, ends_call, is_entry}
-use Rattle.core_model.specs.CoreState.{class_length}
 use Rattle.core_model.specs.Owners.{in_ranges}
 use Rattle.core_model.specs.Queries.{marks_from}
 use Rattle.core_model.specs.OtherParts.{created, shaders_of_work, is_among}

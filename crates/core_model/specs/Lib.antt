@@ -14,6 +14,7 @@ pub mod CoreStep
 pub mod Runs
 pub mod Stands
 pub mod Batching
+pub mod BatchOrder
 pub mod Succession
 pub mod Formed
 pub mod Lawful

@@ -4,6 +4,7 @@ use Rattle.std.specs.Prelude.{◌≡◌, ℕ, suc, ◌-◌, cond, List, [], ◌�
 use Rattle.std.specs.List.{AllByRecursion}
 use Rattle.dx_types.specs.declared.range.Range.{Range}
 use Rattle.dx_types.specs.declared.limits.TheConstants.{CLASSES}
+use Rattle.dx_types.specs.Classes.{class_length}
 use Rattle.buffer_blocks.specs.declared.block.Block.{Block}
 use Rattle.buffer_blocks.specs.Block.{bytes_of}
 use Rattle.vk_types.specs.declared.message.Snap.{Snap}
@@ -14,7 +15,7 @@ use Rattle.vk_types.specs.declared.op.VkOp.{VkOp}
 use Rattle.base_lemmas.specs.Lists.{numbers_from}
 use Rattle.core_model.specs.Script.{Create, Discard, No_overwrite, Stage, Command, Destroy, Create_shader, Mark_query, Set_state, Turn, Refused, Passed, Flushed, Asked, Item, Script}
 use Rattle.core_model.specs.Chunking.{last_call}
-use Rattle.core_model.specs.CoreState.{Page, Segment, Message, marks, taken_blocks, has_class, class_length}
+use Rattle.core_model.specs.CoreState.{Page, Segment, Message, marks, taken_blocks, has_class}
 use Rattle.core_model.specs.Batching.{made}
 use Rattle.core_model.specs.Batches.{batches}
 use Rattle.core_model.specs.Succession.{Head, batch_head, completion_head, post_head, writes_as, only_class, class_of, Log, ChunkView}

@@ -4,6 +4,7 @@ use Rattle.std.specs.List.{list_any, AllByRecursion}
 use Rattle.dx_types.specs.declared.range.Range.{Range}
 use Rattle.dx_types.specs.declared.range.Span.{Span}
 use Rattle.dx_types.specs.declared.limits.TheConstants.{CLASSES, CLASS_BLOCKS}
+use Rattle.dx_types.specs.Classes.{class_length}
 use Rattle.buffer_blocks.specs.declared.block.Block.{Block}
 use Rattle.buffer_blocks.specs.Block.{bytes_of}
 use Rattle.vk_types.specs.declared.message.Placed.{Placed}
@@ -20,7 +21,7 @@ use Rattle.vk_types.specs.Effects.{Meaning}
 use Rattle.core_model.specs.Script.{Play, Create, Discard, No_overwrite, Stage, Command, Destroy, Create_shader, Mark_query, Set_state, Turn, Refused, Passed, Flushed, Asked, Item, Script, InOrder, at_start, turn_in_order, updated}
 use Rattle.core_model.specs.Chunking.{ItemNo, items, chunks, chunk_turns, upto, joined, after_chunk}
 use Rattle.core_model.specs.Renaming.{BlockMap}
-use Rattle.core_model.specs.CoreState.{has_class, class_length, somes}
+use Rattle.core_model.specs.CoreState.{has_class, somes}
 use Rattle.core_model.specs.Owners.{is_block}
 use Rattle.core_model.specs.Adding.{length_of}
 use Rattle.core_model.specs.OtherParts.{is_among}

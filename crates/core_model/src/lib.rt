@@ -8,6 +8,7 @@ mod message_laws;
 mod query_laws;
 mod run_laws;
 mod step_laws;
+mod succession_laws;
 mod worked;
 
 pub use block_laws::{marked_blocks_come_home, taken_blocks_are_idle};
@@ -22,4 +23,5 @@ pub use step_laws::{
     first_choices_are_free, steps_keep_the_classes, steps_keep_the_invariant,
     steps_keep_the_queries,
 };
+pub use succession_laws::batches_are_ordered;
 pub use worked::worked_logs;

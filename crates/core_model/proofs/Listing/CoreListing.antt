@@ -38,11 +38,11 @@ end_barriers : (staging : ℕ → Bool) (recent batch : List c.Command) (o : Opt
 end_barriers staging recent batch None k = refl
 end_barriers staging recent batch (Some first) k = refl
 
-end_numbers : (o : Option ℕ) (k n : ℕ) → k ≡ n → IsNumbered n (batch_end o k)
+pub end_numbers : (o : Option ℕ) (k n : ℕ) → k ≡ n → IsNumbered n (batch_end o k)
 end_numbers None k n e = (e, tt)
 end_numbers (Some first) k n e = (e, tt)
 
-end_whole : (o : Option ℕ) (k : ℕ) (inside : Bool) → IsWhole inside (batch_end o k)
+pub end_whole : (o : Option ℕ) (k : ℕ) (inside : Bool) → IsWhole inside (batch_end o k)
 end_whole None k inside = tt
 end_whole (Some first) k inside = tt
 

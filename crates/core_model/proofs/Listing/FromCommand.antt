@@ -11,9 +11,10 @@ use Rattle.vk_types.specs.Hazards.{read_write_access, write_access}
 use Rattle.vk_types.specs.Effects.{Host_write, Host_read}
 use Rattle.vk_types.specs.Listing.{first_submit}
 use Rattle.vk_types.specs.Before.{op_finishes, op_orders, names_stages_of}
-use Rattle.vk_types.specs.BarrierCauses.{source_mask, all_device, host_reads, least_conflict, caused, since_barrier, least_writer, host_barrier, maybe_barrier, barriers_from}
+use Rattle.vk_types.specs.BarrierCauses.{source_mask, all_device, host_reads, least_conflict, caused, since_barrier, least_writer, host_barrier, maybe_barrier}
 use Rattle.vk_types.specs.Entries.{Counts, Placed, counted, next, after_host, after_barrier, after_submit, after_fence, first_of, rest_of, entries_from}
 use Rattle.vk_types.specs.RunListing.{IsNumbered, IsWhole}
+use Rattle.core_model.specs.BatchOrder.{barriers_by}
 use Rattle.vk_types.proofs.Order.{IsNamed, named_more, source_names, device_names}
 use Rattle.vk_types.proofs.Bridge.{host_names_none, SameAfter, Passed, Submitted, At, pass_quiet, host_after, command_after}
 use Rattle.vk_types.specs.declared.op.VkOp.TheVariants as op
@@ -66,7 +67,7 @@ le_max k m n =
 
 -- From a command on ----------------------------------------------------------------------------------------------------
 
-module _ (staging : ℕ → Bool) (pre : List VkOp) (C : Command) (k e fx nx : ℕ) where
+module _ (staging : ℕ → ℕ → Bool) (pre : List VkOp) (C : Command) (k e fx nx : ℕ) where
   abbrev AtC : Bool → List Command → List VkOp → Counts → Type 0
   AtC inside recent mid c = At pre C k e fx nx inside recent mid c
 
@@ -218,11 +219,11 @@ module _ (staging : ℕ → Bool) (pre : List VkOp) (C : Command) (k e fx nx : �
       (rec ((mid ++ b ∷ []) ++ op.Submit j ∷ []) false (after_submit d j) contents (pass_submit inside recent (mid ++ b ∷ []) j d n.0 at)
       (subst (λ m. IsNumbered (suc m) rest) (sym n.0) n.1) w))
 
-  pub walk : (bare : List VkOp) (recent batch : List Command) (mid : List VkOp) → Walks recent mid (barriers_from staging recent batch bare)
+  pub walk : (bare : List VkOp) (recent batch : List Command) (mid : List VkOp) → Walks recent mid (barriers_by staging recent batch bare)
   walk [] recent batch mid inside c contents a n w = tt
   walk (op.HostWrite r call ∷ bare) recent batch mid inside c contents a n w =
       let o = op.HostWrite r call in
-      let ops = barriers_from staging recent batch bare in (
+      let ops = barriers_by staging recent batch bare in (
         host_after pre C k e fx nx inside recent mid o ops c (counted c (Host_write r (first_of contents))) a w.0 refl refl refl refl refl,
         moved mid o ops (entries_from (after_host c) (rest_of contents) ops)
             (walk bare recent batch (mid ++ o ∷ []) inside (after_host c) (rest_of contents)
@@ -230,24 +231,24 @@ module _ (staging : ℕ → Bool) (pre : List VkOp) (C : Command) (k e fx nx : �
       )
   walk (op.Pipeline shader ∷ bare) recent batch mid inside c contents a n w =
       let o = op.Pipeline shader in
-      let ops = barriers_from staging recent batch bare in
+      let ops = barriers_by staging recent batch bare in
       moved mid o ops (entries_from (next c) contents ops)
       (walk bare recent batch (mid ++ o ∷ []) inside (next c) contents
       (pass_quiet pre C k e fx nx inside recent mid o c (next c) (λ D. refl) refl refl refl refl refl refl a) n w)
   walk (op.Barrier barrier ∷ bare) recent batch mid inside c contents a n w = walk bare recent batch mid inside c contents a n w
   walk (op.Command D ∷ bare) recent batch mid inside c contents a n w =
-      walk_command recent batch D (λ others. barriers_from staging others (batch ++ D ∷ []) bare) (least_conflict recent D)
+      walk_command recent batch D (λ others. barriers_by staging others (batch ++ D ∷ []) bare) (least_conflict recent D)
       (λ others mid. walk bare others (batch ++ D ∷ []) mid) mid inside c contents a n w
   walk (op.Submit j ∷ bare) recent batch mid inside c contents a n w =
-      walk_submit recent j (barriers_from staging recent [] bare) (least_writer staging batch) (λ mid. walk bare recent [] mid) mid inside c contents a n w
+      walk_submit recent j (barriers_by staging recent [] bare) (least_writer (staging j) batch) (λ mid. walk bare recent [] mid) mid inside c contents a n w
   walk (op.Fence j ∷ bare) recent batch mid inside c contents a n w =
       let o = op.Fence j in
-      let ops = barriers_from staging recent batch bare in
+      let ops = barriers_by staging recent batch bare in
       moved mid o ops (entries_from (after_fence c j) contents ops)
       (walk bare recent batch (mid ++ o ∷ []) inside (after_fence c j) contents (pass_fence inside recent mid j c n.0 a) n.1 w)
   walk (op.HostRead r call ∷ bare) recent batch mid inside c contents a n w =
       let o = op.HostRead r call in
-      let ops = barriers_from staging recent batch bare in (
+      let ops = barriers_by staging recent batch bare in (
         host_after pre C k e fx nx inside recent mid o ops c (counted c (Host_read r)) a w.0 refl refl refl refl refl,
         moved mid o ops (entries_from (after_host c) contents ops)
             (walk bare recent batch (mid ++ o ∷ []) inside (after_host c) contents

@@ -52,7 +52,7 @@ barriers_append staging s (op.Submit k ∷ xs) ys =
 barriers_append staging s (op.Fence k ∷ xs) ys = ap (λ l. op.Fence k ∷ l) (barriers_append staging s xs ys)
 barriers_append staging s (op.HostRead r call ∷ xs) ys = ap (λ l. op.HostRead r call ∷ l) (barriers_append staging s xs ys)
 
-numbers_append : (s : ListState) (xs ys : List VkOp) → IsNumbered s.chunk xs → IsNumbered (after_ops s xs).chunk ys → IsNumbered s.chunk (xs ++ ys)
+pub numbers_append : (s : ListState) (xs ys : List VkOp) → IsNumbered s.chunk xs → IsNumbered (after_ops s xs).chunk ys → IsNumbered s.chunk (xs ++ ys)
 numbers_append s [] ys h k = k
 numbers_append s (op.HostWrite r call ∷ xs) ys h k = numbers_append s xs ys h k
 numbers_append s (op.Pipeline shader ∷ xs) ys h k = numbers_append s xs ys h k
@@ -62,7 +62,7 @@ numbers_append s (op.Submit j ∷ xs) ys h k = (h.0, numbers_append (after_op s 
 numbers_append s (op.Fence j ∷ xs) ys h k = (h.0, numbers_append s xs ys h.1 k)
 numbers_append s (op.HostRead r call ∷ xs) ys h k = numbers_append s xs ys h k
 
-whole_append : (s : ListState) (xs ys : List VkOp) → IsWhole s.inside xs → IsWhole (after_ops s xs).inside ys → IsWhole s.inside (xs ++ ys)
+pub whole_append : (s : ListState) (xs ys : List VkOp) → IsWhole s.inside xs → IsWhole (after_ops s xs).inside ys → IsWhole s.inside (xs ++ ys)
 whole_append s [] ys h k = k
 whole_append s (op.HostWrite r call ∷ xs) ys h k = (h.0, whole_append s xs ys h.1 k)
 whole_append s (op.Pipeline shader ∷ xs) ys h k = whole_append s xs ys h k

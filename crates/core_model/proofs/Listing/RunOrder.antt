@@ -10,10 +10,11 @@ use Rattle.vk_types.specs.Hazards.{read_write_access, write_access}
 use Rattle.vk_types.specs.Effects.{Host_write, Device, Host_read, is_host}
 use Rattle.vk_types.specs.Listing.{first_submit}
 use Rattle.vk_types.specs.Before.{before, side, On_host, On_device}
-use Rattle.vk_types.specs.BarrierCauses.{source_mask, all_device, host_reads, least_conflict, caused, since_barrier, least_writer, host_barrier, maybe_barrier, barriers_from}
+use Rattle.vk_types.specs.BarrierCauses.{source_mask, all_device, host_reads, least_conflict, caused, barrier_before, since_barrier, recent_after, least_writer, host_barrier, maybe_barrier, barriers_from}
 use Rattle.vk_types.specs.Entries.{Counts, Placed, entry_before, counted, next, after_host, after_barrier, after_submit, after_fence, first_of, rest_of, entries_from, start_counts}
 use Rattle.vk_types.specs.RunListing.{IsNumbered, IsWhole, IsRunListing, SameOrder}
 use Rattle.base_lemmas.proofs.Lists.{all_map}
+use Rattle.core_model.specs.BatchOrder.{barriers_by, IsBatchListing}
 use Rattle.vk_types.proofs.Order.{ordered_by, ordered_pair, IsNamed, named_last}
 use Rattle.vk_types.proofs.Bridge.{SameAfter}
 use Rattle.core_model.proofs.Listing.FromCommand.{walk}
@@ -108,7 +109,7 @@ module _ (pre : List VkOp) (o : VkOp) (host : side o ≡ On_host) (x : Placed) (
             (host_walk ops (mid ++ p ∷ []) (after_host c) contents (behind_more mid p c (after_host c) refl (omega arith) (omega arith) b) n),
       )
 
-module _ (staging : ℕ → Bool) where
+module _ (staging : ℕ → ℕ → Bool) where
   -- all pairs of acts of a list are ordered alike, where it stands behind `pre`
   abbrev AllAlike : List VkOp → Type 0
   AllAlike ops =
@@ -132,10 +133,10 @@ module _ (staging : ℕ → Bool) where
 
   -- from a command
   from_command : (pre : List VkOp) (D : Command) (c : Counts) (contents : List (List ℕ)) (bare : List VkOp) (recent batch : List Command) → IsNamed D recent
-      → c.place ≡ length pre → c.fence < c.chunk → IsNumbered c.chunk (barriers_from staging recent batch bare) → IsWhole true (barriers_from staging recent batch bare)
-      → AllByRecursion (Alike (pre ++ op.Command D ∷ barriers_from staging recent batch bare) (counted c (Device D))) (entries_from (next c) contents (barriers_from staging recent batch bare))
+      → c.place ≡ length pre → c.fence < c.chunk → IsNumbered c.chunk (barriers_by staging recent batch bare) → IsWhole true (barriers_by staging recent batch bare)
+      → AllByRecursion (Alike (pre ++ op.Command D ∷ barriers_by staging recent batch bare) (counted c (Device D))) (entries_from (next c) contents (barriers_by staging recent batch bare))
   from_command pre D c contents bare recent batch named e l n w =
-      let ops = barriers_from staging recent batch bare in
+      let ops = barriers_by staging recent batch bare in
       let full = pre ++ op.Command D ∷ ops in
       let same : length pre ≡ c.place = sym e in
       all_map (SameAfter pre D c.chunk c.epoch c.fence c.number ops) (Alike full (counted c (Device D)))
@@ -151,17 +152,17 @@ module _ (staging : ℕ → Bool) where
       }) n w)
 
   alike_command : (recent batch : List Command) (D : Command) (bare : List VkOp) (o : Option ℕ)
-      → ((others : List Command) → AllAlike (barriers_from staging others (batch ++ D ∷ []) bare))
-      → AllAlike (maybe_barrier (caused recent D o) ++ op.Command D ∷ barriers_from staging (since_barrier recent D (caused recent D o)) (batch ++ D ∷ []) bare)
+      → ((others : List Command) → AllAlike (barriers_by staging others (batch ++ D ∷ []) bare))
+      → AllAlike (maybe_barrier (caused recent D o) ++ op.Command D ∷ barriers_by staging (since_barrier recent D (caused recent D o)) (batch ++ D ∷ []) bare)
   alike_command recent batch D bare None rec inside pre c contents e l n w =
-      let ops = barriers_from staging (recent ++ D ∷ []) (batch ++ D ∷ []) bare in (
+      let ops = barriers_by staging (recent ++ D ∷ []) (batch ++ D ∷ []) bare in (
         from_command pre D c contents bare (recent ++ D ∷ []) (batch ++ D ∷ []) (named_last D recent) e l n w,
         shifted pre (op.Command D) ops (entries_from (next c) contents ops)
             (rec (recent ++ D ∷ []) true (pre ++ op.Command D ∷ []) (next c) contents (next_place pre (op.Command D) c.place e) l n w),
       )
   alike_command recent batch D bare (Some first) rec inside pre c contents e l n w =
       let b : Barrier = record { source = source_mask recent; dest = all_device read_write_access; first = first; second = Some D.number } in
-      let ops = barriers_from staging (D ∷ []) (batch ++ D ∷ []) bare in
+      let ops = barriers_by staging (D ∷ []) (batch ++ D ∷ []) bare in
       let d = after_barrier c b in
       let f = next_place pre (op.Barrier b) c.place e in
       shifted pre (op.Barrier b) (op.Command D ∷ ops) (entries_from d contents (op.Command D ∷ ops)) (
@@ -185,42 +186,68 @@ module _ (staging : ℕ → Bool) where
       (rec false ((pre ++ op.Barrier b ∷ []) ++ op.Submit j ∷ []) (after_submit d j) contents (next_place (pre ++ op.Barrier b ∷ []) (op.Submit j) d.place f) (omega (arith, l, is))
       (subst (λ m. IsNumbered (suc m) rest) (sym n.0) n.1) w))
 
-  alike : (bare : List VkOp) (recent batch : List Command) → AllAlike (barriers_from staging recent batch bare)
+  alike : (bare : List VkOp) (recent batch : List Command) → AllAlike (barriers_by staging recent batch bare)
   alike [] recent batch inside pre c contents e l n w = tt
   alike (op.HostWrite r call ∷ bare) recent batch inside pre c contents e l n w =
       let o = op.HostWrite r call in
-      let ops = barriers_from staging recent batch bare in (
+      let ops = barriers_by staging recent batch bare in (
         from_host pre o ops c (rest_of contents) (counted c (Host_write r (first_of contents))) refl refl refl refl refl refl e l n,
         shifted pre o ops (entries_from (after_host c) (rest_of contents) ops)
             (alike bare recent batch inside (pre ++ o ∷ []) (after_host c) (rest_of contents) (next_place pre o c.place e) l n w.1),
       )
   alike (op.Pipeline shader ∷ bare) recent batch inside pre c contents e l n w =
       let o = op.Pipeline shader in
-      let ops = barriers_from staging recent batch bare in
+      let ops = barriers_by staging recent batch bare in
       shifted pre o ops (entries_from (next c) contents ops) (alike bare recent batch inside (pre ++ o ∷ []) (next c) contents (next_place pre o c.place e) l n w)
   alike (op.Barrier barrier ∷ bare) recent batch inside pre c contents e l n w = alike bare recent batch inside pre c contents e l n w
   alike (op.Command D ∷ bare) recent batch inside pre c contents e l n w =
       alike_command recent batch D bare (least_conflict recent D) (λ others. alike bare others (batch ++ D ∷ [])) inside pre c contents e l n w
   alike (op.Submit j ∷ bare) recent batch inside pre c contents e l n w =
-      alike_submit j (barriers_from staging recent [] bare) (least_writer staging batch) (alike bare recent []) inside pre c contents e l n w
+      alike_submit j (barriers_by staging recent [] bare) (least_writer (staging j) batch) (alike bare recent []) inside pre c contents e l n w
   alike (op.Fence j ∷ bare) recent batch inside pre c contents e l n w =
       let o = op.Fence j in
-      let ops = barriers_from staging recent batch bare in
+      let ops = barriers_by staging recent batch bare in
       let lt = n.0 in
       shifted pre o ops (entries_from (after_fence c j) contents ops)
       (alike bare recent batch inside (pre ++ o ∷ []) (after_fence c j) contents (next_place pre o c.place e) (omega (arith, l, lt)) n.1 w)
   alike (op.HostRead r call ∷ bare) recent batch inside pre c contents e l n w =
       let o = op.HostRead r call in
-      let ops = barriers_from staging recent batch bare in (
+      let ops = barriers_by staging recent batch bare in (
         from_host pre o ops c contents (counted c (Host_read r)) refl refl refl refl refl refl e l n,
         shifted pre o ops (entries_from (after_host c) contents ops)
             (alike bare recent batch inside (pre ++ o ∷ []) (after_host c) contents (next_place pre o c.place e) l n w.1),
       )
 
-  -- on a run's listing the counts order what masks and fences order
-  pub same_order : (contents : List (List ℕ)) (ops : List VkOp) → IsRunListing staging ops → SameOrder contents ops
-  same_order contents ops run =
+  -- on a listing of batches the counts order what masks and fences order
+  pub batches_in_order : (contents : List (List ℕ)) (ops : List VkOp) → IsBatchListing staging ops → SameOrder contents ops
+  batches_in_order contents ops run =
       let e = run.barriers in
       subst (λ l. SameOrder contents l) (sym e)
       (alike ops [] [] false [] start_counts contents refl (let z : 0 < 1 = omega arith in z)
       (subst (IsNumbered 1) e run.numbers) (subst (IsWhole false) e run.whole))
+
+-- the staging blocks of a run's listing stay the same from batch to batch
+pub steady_barriers : (staging : ℕ → Bool) (ops : List VkOp) (recent batch : List Command)
+    → barriers_from staging recent batch ops ≡ barriers_by (λ k. staging) recent batch ops
+steady_barriers staging [] recent batch = refl
+steady_barriers staging (op.HostWrite r call ∷ ops) recent batch =
+    ap (λ l. op.HostWrite r call ∷ l) (steady_barriers staging ops recent batch)
+steady_barriers staging (op.Pipeline shader ∷ ops) recent batch =
+    ap (λ l. op.Pipeline shader ∷ l) (steady_barriers staging ops recent batch)
+steady_barriers staging (op.Barrier barrier ∷ ops) recent batch = steady_barriers staging ops recent batch
+steady_barriers staging (op.Command D ∷ ops) recent batch =
+    ap (λ l. maybe_barrier (barrier_before recent D) ++ op.Command D ∷ l)
+    (steady_barriers staging ops (recent_after recent D) (batch ++ D ∷ []))
+steady_barriers staging (op.Submit k ∷ ops) recent batch =
+    ap (λ l. host_barrier (least_writer staging batch) ++ op.Submit k ∷ l) (steady_barriers staging ops recent [])
+steady_barriers staging (op.Fence k ∷ ops) recent batch =
+    ap (λ l. op.Fence k ∷ l) (steady_barriers staging ops recent batch)
+steady_barriers staging (op.HostRead r call ∷ ops) recent batch =
+    ap (λ l. op.HostRead r call ∷ l) (steady_barriers staging ops recent batch)
+
+-- on a run's listing the counts order what masks and fences order
+pub same_order : (staging : ℕ → Bool) (contents : List (List ℕ)) (ops : List VkOp) → IsRunListing staging ops
+    → SameOrder contents ops
+same_order staging contents ops run =
+    batches_in_order (λ k. staging) contents ops
+    (record { barriers = run.barriers ∙ steady_barriers staging ops [] []; numbers = run.numbers; whole = run.whole })

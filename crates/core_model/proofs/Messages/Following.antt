@@ -2,13 +2,14 @@
 use Rattle.std.proofs.Common.{◌≡◌, ℕ, zero, suc, ◌+◌, ◌-◌, ◌*◌, ◌<◌, ◌≤◌, false, cond, nat_lt, List, [], ◌∷◌, ◌++◌, length, map, take, refl, sym, ap, ◌∙◌, subst, inl, inr, Option, Some, None, slice_get, arith, append_assoc, length-append}
 use Rattle.std.specs.List.{AllByRecursion}
 use Rattle.std.proofs.lemmas.Bool.{cases_Bool, ltb-true, lt-ltb}
+use Rattle.dx_types.specs.Classes.{class_length}
 use Rattle.buffer_blocks.specs.declared.block.Block.{Block}
 use Rattle.buffer_blocks.specs.Block.{bytes_of}
 use Rattle.vk_types.specs.declared.message.Placed.{Placed}
 use Rattle.core_model.specs.Script.{Create, Discard, No_overwrite, Stage, Command, Destroy, Create_shader, Mark_query, Set_state, Turn, Refused, Passed, Flushed, Asked, Item, Script}
 use Rattle.core_model.specs.Chunking.{chunks, chunk_turns, last_call, items, joined}
 use Rattle.core_model.specs.Renaming.{BlockMap}
-use Rattle.core_model.specs.CoreState.{Page, Segment, somes, class_length}
+use Rattle.core_model.specs.CoreState.{Page, Segment, somes}
 use Rattle.core_model.specs.Batching.{Made, nothing_made, made, batch_ops}
 use Rattle.core_model.specs.Invariant.{turns_of}
 use Rattle.core_model.specs.Messages.{head_behind, heads_behind, heads, page_of, block_length, takers, AreAsLong, AreTaken}

@@ -6,6 +6,7 @@ use Rattle.dx_types.specs.declared.shape.Shape.{Shape}
 use Rattle.dx_types.specs.declared.shape.Usage.{Usage}
 use Rattle.dx_types.specs.declared.shape.Usage.TheVariants.{Default, Immutable, Dynamic, Staging}
 use Rattle.dx_types.specs.declared.refusal.Refusal.{Refusal}
+use Rattle.dx_types.specs.Classes.{class_length}
 use Rattle.call_log.specs.Call as calls
 use Rattle.call_log.specs.Call.{Call, Issued}
 use Rattle.d3d_model.specs.Resource.{usage_from, is_dynamic, is_staging, class_of, size_of, is_one}
@@ -14,7 +15,6 @@ use Rattle.d3d_model.proofs.Limits.{dynamic_usage}
 use Rattle.d3d_model.proofs.Named.{none_of}
 use Rattle.d3d_model.proofs.Listed.{left_of, own_checks}
 use Rattle.core_model.specs.Script.{Script}
-use Rattle.core_model.specs.CoreState.{class_length}
 use Rattle.core_model.specs.Lawful.{ClassFits}
 use Rattle.log_script.specs.LogScript.{shape_unless, shape_in, shape_made, class_if, script_of}
 
