@@ -7,7 +7,7 @@ use vk_trace::{TraceEnd, print_ops, read_ops};
 use vk_types::VkOp;
 
 // Listings that are read, and printed as they were.
-const LISTINGS: [&str; 9] = [
+const LISTINGS: [&str; 10] = [
     "",
     // A copy behind a copy, and a read by the host.
     "host-write b512 0 16 call 1\nhost-write b513 0 16 call 2\nhost-write b514 0 16 call 3\ncopy 1 r b514:0-16 w b512:0-16 call 3\nbarrier transfer:w all:rw cause 1 2\ncopy 2 r b512:0-16 w b513:0-16 call 4\nbarrier all:w host:r cause 2 host\nsubmit 1\nfence 1\nhost-read b513 0 16 call 5\n",
@@ -17,6 +17,8 @@ const LISTINGS: [&str; 9] = [
     "clear 1 00000001 00000000 00000000 00000000 2 w b512:0-16 call 1\nbarrier all:w all:rw cause 1 2\ndispatch 2 p9 1 1 1 s0 b512:0-16 call 2\ncopy 3 r b512:0-16 w b513:0-16 call 3\nsubmit 1\n",
     // Sources that name the stages that were used, and whether they wrote.
     "barrier compute:w all:rw cause 1 2\nbarrier compute:w,transfer:w all:rw cause 1 3\nbarrier compute:- all:rw cause 1 2\n",
+    // Sources with all four accesses.
+    "barrier all:rw all:rw cause 1 2\nbarrier all:r all:rw cause 1 2\nbarrier compute:r all:rw cause 1 2\nbarrier compute:-,transfer:rw all:rw cause 1 2\nbarrier indirect:r,host:rw host:- cause 3 host\n",
     // Masks of every stage and access.
     "barrier indirect:-,compute:w,transfer:w,host:w indirect:r,compute:r,transfer:r,host:r cause 1 host\nbarrier host:- indirect:r,compute:r cause 1 2\nbarrier all:- all:r cause 1 2\nbarrier indirect:w all:w cause 1 2\nbarrier indirect:-,compute:w,transfer:w indirect:rw,compute:rw,transfer:w cause 1 2\nbarrier transfer:- all:- cause 1 2\n",
     // Slots of each sort, counts that lie in memory, and conditions.
@@ -27,7 +29,7 @@ const LISTINGS: [&str; 9] = [
 ];
 
 // Texts, by their first bad line.
-const BAD_FIRST_LINE: [&str; 64] = [
+const BAD_FIRST_LINE: [&str; 61] = [
     "submit 1",
     "\n",
     "submit 18446744073709551616\n",
@@ -80,11 +82,8 @@ const BAD_FIRST_LINE: [&str; 64] = [
     "barrier all:w all:rw cause 1\n",
     "barrier all:w all:rw cause 1 18446744073709551616\n",
     "barrier all:w all:rw cause 1 hosts\n",
-    "barrier all:rw all:rw cause 1 2\n",
-    "barrier all:r all:rw cause 1 2\n",
-    "barrier compute:r all:rw cause 1 2\n",
-    "barrier compute:-,transfer:rw all:rw cause 1 2\n",
     "barrier all:w all:wr cause 1 2\n",
+    "barrier all:wr all:rw cause 1 2\n",
     "barrier all:w all:rw,host:r cause 1 2\n",
     "barrier all:w indirect:r,compute:r,transfer:r cause 1 2\n",
     "barrier all:w compute:r,indirect:r cause 1 2\n",

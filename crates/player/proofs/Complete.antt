@@ -8,6 +8,7 @@ use Rattle.player.specs.declared.status.Status.TheVariants.{Done, Usage, ReadFau
 use Rattle.call_log.specs.Grammar.{Frame}
 use Rattle.call_log.proofs.OneReading.{one_log, no_fault}
 use Rattle.log_text.proofs.Spelling.{no_bad_line}
+use Rattle.list_audit.proofs.OneReading.{no_bad_line as not_bad_audited}
 use Rattle.d3d_plan.specs.Ends.{Never, IsFirst, is_draw_record, is_unbuilt_record}
 use Rattle.core_machine.specs.Unplayed.{is_unplayed_record}
 use Rattle.player.specs.Outcome.{Answers, IsPlayedLog, IsRunOf, FirstDraw, FirstUnbuilt, RunRefuses, Refuses, WasLeft, Outcome, OutcomeOf, Accepted}
@@ -49,6 +50,8 @@ refused_not commands.List bytes out (BadLog fault) a r = no_fault bytes a.0 faul
 refused_not commands.List bytes out _ a r = absurd r
 refused_not commands.Asm bytes out (BadText line) a r = no_bad_line bytes out line a r
 refused_not commands.Asm bytes out _ a r = absurd r
+refused_not commands.Audit bytes out (BadText line) a r = not_bad_audited bytes a.1.ops a.1.order line a.1.read r
+refused_not commands.Audit bytes out _ a r = absurd r
 
 not_refused : (c : Command) (left : Option (List ℕ)) (s : Status) (bytes : List ℕ) → Accepted c left → WasLeft left bytes → Refuses c bytes s → ⊥
 not_refused c left s bytes acc was r =

@@ -1,4 +1,5 @@
 pub mod Number
 pub mod StatusText
 pub mod Words
+pub mod AuditLines
 pub mod Outcome

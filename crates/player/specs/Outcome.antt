@@ -12,6 +12,10 @@ use Rattle.player.specs.declared.run.Unsaid.TheVariants as unsaid
 use Rattle.call_log.specs.Call.{Issued}
 use Rattle.call_log.specs.Grammar.{Frame, IsLog, IsFault, calls_of, frame_no}
 use Rattle.log_text.specs.LogText.{LogText, IsFirstBad, text_of}
+use Rattle.list_audit.specs.declared.report.Report.{Report}
+use Rattle.list_audit.specs.AuditText.{IsFirstBad as IsFirstBadAudited}
+use Rattle.list_audit.specs.Reports.{IsReport}
+use Rattle.player.specs.AuditLines.{report_text}
 use Rattle.d3d_model.specs.ReplyText.{text, none_pending}
 use Rattle.d3d_plan.specs.Ends.{Never, IsFirst, is_draw_record, is_unbuilt_record}
 use Rattle.core_machine.specs.Unplayed.{is_unplayed_record}
@@ -35,6 +39,7 @@ Answers commands.Replay bytes out = IsRunOf is_unplayed_record bytes out
 Answers commands.Ref bytes out = IsRunOf is_unbuilt_record bytes out
 Answers commands.List bytes out = (frames : List Frame) × IsLog bytes frames × (out ≡ text_of frames)
 Answers commands.Asm bytes out = LogText bytes out
+Answers commands.Audit bytes out = (report : Report) × IsReport bytes report × (out ≡ report_text report)
 
 -- call n of these records is of a kind
 abbrev pub IsKindOf : List Frame → ℕ → ℕ → Type 0
@@ -69,6 +74,8 @@ Refuses commands.List bytes (BadLog fault) = IsFault bytes fault
 Refuses commands.List bytes _ = ⊥
 Refuses commands.Asm bytes (BadText line) = IsFirstBad bytes line
 Refuses commands.Asm bytes _ = ⊥
+Refuses commands.Audit bytes (BadText line) = IsFirstBadAudited bytes line
+Refuses commands.Audit bytes _ = ⊥
 
 -- ---- what was written
 

@@ -12,6 +12,7 @@ command_by_word word =
     else if bytes_eq word (codes "ref") then Some commands.Ref
     else if bytes_eq word (codes "list") then Some commands.List
     else if bytes_eq word (codes "asm") then Some commands.Asm
+    else if bytes_eq word (codes "audit") then Some commands.Audit
     else None
 
 -- the command that some words are

@@ -12,6 +12,8 @@ pub(crate) enum Command {
     List,
     /// Write the log of a text.
     Asm,
+    /// Write whether a listing covers its hazards, and whether it allows an order.
+    Audit,
 }
 
 /// The command that the words are, each word of its own: none for all others.
@@ -24,6 +26,7 @@ pub(crate) fn command_of(words: &[String]) -> Option<Command>
             "ref" => Some(Command::Ref),
             "list" => Some(Command::List),
             "asm" => Some(Command::Asm),
+            "audit" => Some(Command::Audit),
             _ => None,
         },
         _ => None,

@@ -1,6 +1,7 @@
 //! The top call: it reads a log, plays it and writes what it says.
 #![tactic(auto)]
 
+mod audit;
 mod command;
 mod run;
 mod status;

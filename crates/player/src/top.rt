@@ -6,6 +6,7 @@ ghost use Rattle.player.specs.declared.command.Command as command;
 ghost use Rattle.player.specs.Words.{command_of};
 ghost use Rattle.player.specs.Outcome.{OutcomeOf, Outcome, CameOf, Accepted, IsNotBuilt, UnplannedStatus, Writes};
 
+use crate::audit::audit_bytes;
 use crate::command::{Command, command_of};
 use crate::run::{play, say_all};
 use crate::status::Status;
@@ -21,7 +22,9 @@ use std::alloc::Global;
 
 /// Does what the words of a command line ask for, which stand here without the program's name. `replay`
 /// reads a log from the source to its end, plays it and writes the line of each reply as it comes; `ref` writes the same
-/// lines by a plain machine that takes one call after the other; `list` writes the text of a log, and `asm` the log of a text. The input is at most 67,108,864 bytes.
+/// lines by a plain machine that takes one call after the other; `list` writes the text of a log, and `asm` the log of a text;
+/// `audit` reads the text of a listing, and writes whether it covers its hazards and allows the order behind it. The input is
+/// at most 67,108,864 bytes.
 pub fn replay<S: Source, K: Sink>(
     alloc: Global,
     words: &[String],
@@ -92,6 +95,7 @@ fn answer<K: Sink>(alloc: Global, command: Command, bytes: &[u8], out: &mut K) -
         Command::Ref => ref_bytes(alloc, bytes, out),
         Command::List => list_bytes(alloc, bytes, out),
         Command::Asm => asm_bytes(alloc, bytes, out),
+        Command::Audit => audit_bytes(alloc, bytes, out),
     }
 }
 
@@ -210,7 +214,8 @@ fn asm_bytes<K: Sink>(alloc: Global, text: &[u8], out: &mut K) -> Status
     }
 }
 
-fn write<K: Sink>(out: &mut K, bytes: &[u8]) -> Status
+/// Writes bytes, or some front of them.
+pub(crate) fn write<K: Sink>(out: &mut K, bytes: &[u8]) -> Status
     ensures written { Writes bytes.now (K.held out.old) result (K.held out.new) }
     ensures write_fault { result ≡ Status.WriteFault → Rose (K.faults out.old) (K.faults out.new) }
     ensures write_later { K.faults out.old ≤ K.faults out.new }

@@ -1,5 +1,5 @@
 mod AllScan
-mod Open
+pub mod Open
 pub mod Placed
 pub mod Whole
 pub mod Acts

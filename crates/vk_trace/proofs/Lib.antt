@@ -8,3 +8,4 @@ pub mod Ops
 pub mod Texts
 pub mod Written
 pub mod Spelling
+pub mod Orders

@@ -81,7 +81,7 @@ same_second (Some m) (Some n) a b p q e = ap (λ (k : ℕ). Some k) (same_wide m
 same_barrier : (b d : Barrier) → IsOp (op.Barrier b) → IsOp (op.Barrier d) → barrier_words b ≡ barrier_words d → b ≡ d
 same_barrier b d p q e =
     let source = same_mask b.source d.source p.listed.0 q.listed.0 (heads (mask_word b.source) (mask_word d.source) _ _ e) in
-    let dest = same_mask b.dest d.dest p.listed.2 q.listed.2 (heads (mask_word b.dest) (mask_word d.dest) _ _ (ap (drop 1) e)) in
+    let dest = same_mask b.dest d.dest p.listed.1 q.listed.1 (heads (mask_word b.dest) (mask_word d.dest) _ _ (ap (drop 1) e)) in
     let first = same_wide b.first d.first _ _ p.fits.0 q.fits.0 (ap (drop 3) e) in
     let second = same_second b.second d.second _ _ p.fits.1 q.fits.1 (ap (drop 4) e) in
     λ i. record { source = source i; dest = dest i; first = first i; second = second i }

@@ -1,3 +1,4 @@
 pub mod ListText
 pub mod Reading
 pub mod Writing
+pub mod OrderLine

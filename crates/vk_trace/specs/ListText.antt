@@ -181,11 +181,6 @@ abbrev pub IsAccess : Option Access → Type 0
 IsAccess None = ⊤
 IsAccess (Some a) = a.0 < 4
 
--- a source says of an access whether it writes, and no more
-abbrev pub IsSourceAccess : Option Access → Type 0
-IsSourceAccess None = ⊤
-IsSourceAccess (Some a) = (a.0 ≡ 0) ⊎ (a.0 ≡ 2)
-
 -- a mask names a stage at least
 pub record IsMask (m : Mask) : Type 0 where
   pub indirect : IsAccess m.indirect
@@ -193,13 +188,6 @@ pub record IsMask (m : Mask) : Type 0 where
   pub transfer : IsAccess m.transfer
   pub host : IsAccess m.host
   pub some : stage_parts m ≢ []
-
--- the mask is one of a source
-pub record IsSource (m : Mask) : Type 0 where
-  pub indirect : IsSourceAccess m.indirect
-  pub compute : IsSourceAccess m.compute
-  pub transfer : IsSourceAccess m.transfer
-  pub host : IsSourceAccess m.host
 
 -- where a slot stands among the slots of a dispatch: constants, then SRVs, then UAVs
 abbrev pub slot_rank : SlotName → ℕ
@@ -238,7 +226,7 @@ IsCond (Some c) = IsRange c.at × (size c.at ≡ 4)
 abbrev pub IsListed : VkOp → Type 0
 IsListed (op.HostWrite r n) = IsRange r
 IsListed (op.Pipeline n) = ⊤
-IsListed (op.Barrier b) = IsMask b.source × IsSource b.source × IsMask b.dest
+IsListed (op.Barrier b) = IsMask b.source × IsMask b.dest
 IsListed (op.Command c) = IsWork c.work × IsCond c.cond
 IsListed (op.Submit k) = ⊤
 IsListed (op.Fence k) = ⊤

@@ -19,7 +19,7 @@ use Rattle.vk_trace.specs.declared.kind.WorkKind.{WorkKind}
 use Rattle.vk_trace.specs.declared.kind.WorkKind.TheVariants as kinds
 use Rattle.vk_trace.specs.declared.kind.LineKind.{LineKind}
 use Rattle.vk_trace.specs.declared.kind.LineKind.TheVariants as lines
-use Rattle.vk_trace.specs.ListText.{IsSmall, IsWide, IsRange, FitsRange, FitsSecond, IsAccess, IsMask, IsSource, IsCond, FitsCond, AreGroups, FitGroups, AreSlots, FitSlots, IsWork, FitsWork, FitsCommand, size, slot_rank, slot_number, access_word, range_word, slot_word, part, stage_parts, slot_words, cond_words, call_words, work_name, work_words, command_words, host_words, barrier_words, op_words, join, text_of, IsOp}
+use Rattle.vk_trace.specs.ListText.{IsSmall, IsWide, IsRange, FitsRange, FitsSecond, IsAccess, IsMask, IsCond, FitsCond, AreGroups, FitGroups, AreSlots, FitSlots, IsWork, FitsWork, FitsCommand, size, slot_rank, slot_number, access_word, range_word, slot_word, part, stage_parts, slot_words, cond_words, call_words, work_name, work_words, command_words, host_words, barrier_words, op_words, join, text_of, IsOp}
 
 -- The words between the separators of a text.
 abbrev pub onto : ℕ → List (List ℕ) → List (List ℕ)
@@ -200,7 +200,6 @@ pair_words h = host_words h.0 h.1
 -- A barrier that a line may have.
 pub record IsBarrier (b : Barrier) : Type 0 where
   pub source : IsMask b.source
-  pub says : IsSource b.source
   pub dest : IsMask b.dest
   pub first : IsWide b.first
   pub second : FitsSecond b.second

@@ -4,7 +4,7 @@ ghost use Rattle.std.specs.Prelude.{◌≡◌, ◌≢◌, ◌<◌, ℕ, List, []
 ghost use Rattle.std.specs.Bool.{MatchBool};
 ghost use Rattle.vk_types.specs.declared.access.Access.{Access};
 ghost use Rattle.vk_types.specs.declared.access.Mask.{Mask};
-ghost use Rattle.vk_trace.specs.ListText.{IsAccess, IsMask, IsSource, IsSourceAccess, access_word, alike, listed, mask_word, part, parts, stage_parts};
+ghost use Rattle.vk_trace.specs.ListText.{IsAccess, IsMask, access_word, alike, listed, mask_word, part, parts, stage_parts};
 ghost use Rattle.vk_trace.specs.Reading.{BadPart, HaveAccesses, IsPart, IsParts, split};
 ghost use Rattle.text_words.specs.Words.{IsRead};
 
@@ -95,24 +95,5 @@ pub(crate) fn alike(mask: &Mask) -> Option<Access>
             if same { Some(indirect) } else { None }
         }
         _ => None,
-    }
-}
-
-/// Whether a mask is one of a source, which says of each stage whether it writes, and no more.
-pub(crate) fn is_source(mask: &Mask) -> bool
-    ensures { MatchBool result (IsSource mask.now) (IsSource mask.now → ⊥) }
-{
-    is_source_access(mask.indirect)
-        && is_source_access(mask.compute)
-        && is_source_access(mask.transfer)
-        && is_source_access(mask.host)
-}
-
-fn is_source_access(access: Option<Access>) -> bool
-    ensures { MatchBool result (IsSourceAccess access) (IsSourceAccess access → ⊥) }
-{
-    match access {
-        Some(access) => access.bits() == 0 || access.bits() == 2,
-        None => true,
     }
 }

@@ -1,6 +1,6 @@
 //! A listing, as it is read.
 
-ghost use Rattle.std.specs.Prelude.{◌≡◌, ◌≤◌, ◌^◌, ℕ, List, [], ◌∷◌, ◌++◌, length, IfOk, IfErr, MatchOption, codes};
+ghost use Rattle.std.specs.Prelude.{◌≡◌, ◌≤◌, ◌^◌, ◌/◌, ℕ, List, [], ◌∷◌, ◌++◌, length, IfOk, IfErr, MatchOption, codes};
 ghost use Rattle.vk_types.specs.declared.command.Cond.{Cond};
 ghost use Rattle.vk_types.specs.declared.command.Command.{Command};
 ghost use Rattle.vk_types.specs.declared.op.VkOp.{VkOp};
@@ -9,7 +9,6 @@ ghost use Rattle.vk_trace.specs.Reading.{BadCond, Ends, IsBarrier, IsCondRead, I
 ghost use Rattle.text_words.specs.Words.{Cut};
 
 use crate::kind::{LineKind, WorkKind, line_kind, work_kind};
-use crate::mask::is_source;
 use crate::trace_end::{Stop, TraceEnd};
 use crate::words::Words;
 use crate::work::work;
@@ -17,6 +16,9 @@ use dx_types::Range;
 use std::alloc::Global;
 use text_words::next_line;
 use vk_types::{Barrier, Command, Cond, VkOp};
+
+// The bytes of `fence 0` and its line feed: no line is shorter.
+const SHORTEST_LINE: usize = 8;
 
 // The call that a line ends in.
 fn call(words: &mut Words<'_>) -> Option<u32>
@@ -96,9 +98,6 @@ fn barrier(words: &mut Words<'_>) -> Option<Barrier>
     let first = words.wide()?;
     let second = words.second()?;
     words.end()?;
-    if !is_source(&source) {
-        return None;
-    }
     Some(Barrier {
         source,
         dest,
@@ -162,8 +161,8 @@ fn operation(kind: LineKind, words: &mut Words<'_>) -> Option<VkOp>
     }
 }
 
-// The operation of a line, which stands without its line feed.
-fn line(alloc: Global, text: &[u8]) -> Result<VkOp, Stop>
+/// The operation of a line, which stands without its line feed.
+pub fn read_op(alloc: Global, text: &[u8]) -> Result<VkOp, Stop>
     ensures found { IfOk result (ReadsLine text.now) }
     ensures bad { IfErr result (λ e. WhenBad e (NoLine text.now)) }
 {
@@ -183,20 +182,29 @@ fn line(alloc: Global, text: &[u8]) -> Result<VkOp, Stop>
     Ok(op)
 }
 
+/// As many operations as the text can have: one a line, and none in fewer bytes than `fence 0` takes. An operation takes more
+/// room than its line, so a reader makes room once, and for no more lines than can be good.
+pub fn most_operations(text: &[u8]) -> usize
+    ensures { result ≤ length text.now / SHORTEST_LINE }
+{
+    let lines = text.iter().filter(|byte| **byte == b'\n').count();
+    lines.min(text.len() / SHORTEST_LINE)
+}
+
 /// The operations of a listing's text; or the first line that is no operation's, from 1. What stands behind the last
 /// line feed is a line too, and a bad one.
 pub fn read_ops(alloc: Global, text: &[u8]) -> Result<Vec<VkOp>, TraceEnd>
     ensures listing { IfOk result (λ ops. ListText text.now ops.items) }
     ensures bad { IfErr result (λ e. BadOnly text.now e) }
 {
-    let mut ops = Vec::new(alloc);
+    let mut ops = Vec::with_capacity(alloc, most_operations(text))?;
     let mut rest = text;
     let mut number = 1;
     'lines: while !rest.is_empty() {
         let Some((bare, after)) = next_line(rest) else {
             return Err(TraceEnd::Bad { line: number });
         };
-        let op = match line(alloc, bare) {
+        let op = match read_op(alloc, bare) {
             Ok(op) => op,
             Err(Stop::Bad) => return Err(TraceEnd::Bad { line: number }),
             Err(Stop::NoMemory) => return Err(TraceEnd::NoMemory),

@@ -31,9 +31,9 @@ impl From<AllocFailed<VkOp>> for TraceEnd {
     }
 }
 
-/// Why a line gives no operation.
+/// Why a line gives no operation: it is none's, or memory ran out.
 #[derive(Clone, Copy, Debug, PartialEq, Eq)]
-pub(crate) enum Stop {
+pub enum Stop {
     Bad,
     NoMemory,
 }

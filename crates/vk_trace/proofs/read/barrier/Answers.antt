@@ -1,9 +1,7 @@
-use Rattle.std.proofs.Common.{sym, ap, drop, subst, ◌∙◌}
-use Rattle.vk_trace.specs.ListText.{IsSource, barrier_words}
+use Rattle.std.proofs.Common.{sym, ap, drop, ◌∙◌}
+use Rattle.vk_trace.specs.ListText.{barrier_words}
 use Rattle.vk_trace.specs.Reading.{IsBarrier}
-use Rattle.vk_trace.proofs.Masks.{same_mask}
 use Rattle.vk_trace.proofs.Ops.{none_ends}
-use Rattle.vk_trace.proofs.Works.{heads}
 use Rattle.vk_trace.proofs.read.barrier.Goals as goal
 
 pub returns-in_err-source : goal.returns-in_err-source
@@ -34,9 +32,3 @@ returns-in_err-end c =
     (λ b good e.
     c.in_err-end.ensures
     (ap (drop 1) (sym c.in_ok-second.ensures.1 ∙ ap (drop 1) (sym c.in_ok-first.ensures.1 ∙ ap (drop 1) (sym c.in_ok-key.ensures ∙ ap (drop 1) (sym c.in_ok-dest.ensures.1 ∙ ap (drop 1) (sym c.in_ok-source.ensures.1 ∙ e)))))))
-
-pub returns-then-not-is_source : goal.returns-then-not-is_source
-returns-then-not-is_source c =
-    λ b good e.
-    let same = same_mask c.in_ok-source.source b.source c.in_ok-source.ensures.0 good.source (heads _ _ _ _ (sym c.in_ok-source.ensures.1 ∙ e)) in
-    c.if-not-is_source.ensures (subst IsSource (sym same) good.says)

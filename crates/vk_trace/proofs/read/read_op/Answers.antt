@@ -3,7 +3,7 @@ use Rattle.std.proofs.lemmas.Result.{err_from_is_err_and}
 use Rattle.vk_trace.proofs.Results.{when_bad}
 use Rattle.vk_trace.proofs.Splits.{split_some}
 use Rattle.vk_trace.proofs.Ops.{command_line, no_command_line, no_line, line_words, line_read}
-use Rattle.vk_trace.proofs.read.line.Goals as goal
+use Rattle.vk_trace.proofs.read.read_op.Goals as goal
 
 pub returns-in_default-clause-bad : goal.returns-in_default-clause-bad
 returns-in_default-clause-bad c = λ o g e. split_some 32 c.args.text.now (sym c.new-words.ensures ∙ c.in_default.ensures)

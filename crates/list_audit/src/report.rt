@@ -1,0 +1,81 @@
+//! The report on a text.
+
+ghost use Rattle.std.specs.Prelude.{◌≡◌, ◌≤◌, ◌<◌, ◌^◌, IfOk, IfErr, None, length};
+ghost use Rattle.std.specs.Option.{option_map};
+ghost use Rattle.dx_types.specs.declared.limits.TheConstants.{MAX_LISTING};
+ghost use Rattle.list_audit.specs.AuditText.{BadOnly};
+ghost use Rattle.list_audit.specs.Reports.{AreShared, IsHazardIf, IsReport, IsVerdictIf, OrdersAgree, Reports, shared_of};
+
+use crate::audit_end::AuditEnd;
+use crate::reading::{read_front, read_last};
+use crate::sharing::shared_bytes;
+use dx_types::Range;
+use std::alloc::Global;
+use vk_order::{OrderEnd, Uncovered, allowed, covered};
+use vk_types::VkOp;
+
+/// What an audit says: the first pair that is not covered, if there is one, with the bytes that its first conflicting touches
+/// share; and whether the order is allowed, if there is one.
+#[derive(Clone, Copy, Debug)]
+pub struct Report {
+    pub pair: Option<Uncovered>,
+    pub shared: Option<Range>,
+    pub order: Option<Result<(), OrderEnd>>,
+}
+
+fn verdict(ops: &[VkOp], order: &Option<Vec<u32>>) -> Option<Result<(), OrderEnd>>
+    requires { length ops.now < 2 ^ 32 }
+    ensures { IsVerdictIf ops.now (option_map (λ v. v.items) order.now) result }
+{
+    match order {
+        Some(places) => Some(allowed(ops, places)),
+        None => None,
+    }
+}
+
+// The first hazard that is not covered, if there is one.
+fn hazard(ops: &[VkOp]) -> Option<Uncovered>
+    requires { length ops.now < 2 ^ 32 }
+    ensures { IsHazardIf ops.now result }
+{
+    covered(ops).err()
+}
+
+// The bytes that its first conflicting touches share.
+fn shared(ops: &[VkOp], hazard: &Option<Uncovered>) -> Option<Range>
+    requires { IsHazardIf ops.now hazard.now }
+    ensures shared { result ≡ shared_of ops.now hazard.now }
+    ensures bytes { AreShared ops.now hazard.now result }
+{
+    match hazard {
+        Some(pair) => shared_bytes(&ops[pair.first as usize], &ops[pair.second as usize]),
+        None => None,
+    }
+}
+
+fn report_on(ops: &[VkOp], order: &Option<Vec<u32>>) -> Report
+    requires { length ops.now < 2 ^ 32 }
+    ensures { Reports ops.now (option_map (λ v. v.items) order.now) result }
+{
+    let pair = hazard(ops);
+    Report {
+        pair,
+        shared: shared(ops, &pair),
+        order: verdict(ops, order),
+    }
+}
+
+/// Audits a listing's text, which an order's line may stand behind: whether each hazard is covered, and whether the order is
+/// allowed.
+pub fn audit(alloc: Global, text: &[u8]) -> Result<Report, AuditEnd>
+    requires { length text.now ≤ MAX_LISTING }
+    ensures report { IfOk result (IsReport text.now) }
+
+    // Where each hazard is covered, the order doesn't matter.
+    ensures agree { IfOk result (λ report. report.pair ≡ None → OrdersAgree text.now) }
+    ensures bad { IfErr result (BadOnly text.now) }
+{
+    let (ops, rest) = read_front(alloc, text)?;
+    let order = read_last(alloc, rest, ops.len() as u64 + 1)?;
+    Ok(report_on(&ops, &order))
+}
