@@ -15,3 +15,6 @@ pub mod Messaging
 pub mod Copies
 pub mod BytesInTurn
 pub mod BatchesInTurn
+pub mod HeadLines
+pub mod UsedBlocks
+pub mod HeldBlocks

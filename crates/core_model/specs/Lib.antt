@@ -16,6 +16,7 @@ pub mod Stands
 pub mod Batching
 pub mod BatchOrder
 pub mod Succession
+pub mod Spine
 pub mod Formed
 pub mod Lawful
 pub mod Gaps

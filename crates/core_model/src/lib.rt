@@ -23,5 +23,7 @@ pub use step_laws::{
     first_choices_are_free, steps_keep_the_classes, steps_keep_the_invariant,
     steps_keep_the_queries,
 };
-pub use succession_laws::batches_are_ordered;
+pub use succession_laws::{
+    batches_are_ordered, messages_use_their_blocks, taken_blocks_are_apart, used_blocks_are_held,
+};
 pub use worked::worked_logs;

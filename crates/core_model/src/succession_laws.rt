@@ -1,8 +1,13 @@
-ghost use Rattle.std.specs.Prelude.{◌≡◌, ℕ, suc, Bool, List, [], ◌∷◌, ◌++◌, length};
+ghost use Rattle.std.specs.Prelude.{◌≡◌, ℕ, suc, Bool, false, List, [], ◌∷◌, ◌++◌, length, Some};
+ghost use Rattle.std.specs.List.{AllByRecursion};
+ghost use Rattle.vk_types.specs.Hazards.{touches};
 ghost use Rattle.vk_types.specs.declared.message.Placed.{Placed};
 ghost use Rattle.vk_types.specs.RunListing.{IsRunListing, SameOrder};
 ghost use Rattle.core_model.specs.Script.{Script};
 ghost use Rattle.core_model.specs.Batching.{made, batch_ops};
+ghost use Rattle.core_model.specs.Succession.{Head, Log, takes, all_places, staged_ranges, places_in};
+ghost use Rattle.core_model.specs.Lawful.{IsLawful};
+ghost use Rattle.core_model.specs.Spine.{Succeeds, made_of, MayUse, IsHeldBy};
 ghost use Rattle.core_model.specs.BatchOrder.{IsBatchListing, ops_of, staging_at};
 
 /// The law of the batches of messages, whatever places these have. Their operations, batch behind batch, are a listing that has
@@ -17,4 +22,38 @@ pub fn batches_are_ordered()
     ensures one_more { (script : Script) (front : List (List Placed)) (here : List Placed)
         → ops_of script (front ++ here ∷ [])
         ≡ ops_of script front ++ batch_ops (made script (front ++ here ∷ [])) (suc (length front)) }
+{}
+
+/// The law of what a message uses, in every succession of a lawful script's messages. The commands that its items make, and
+/// the host writes, are on blocks that it took, on those where it staged bytes, and on blocks of buffers that lived before it;
+/// and the buffers that live behind it have such blocks.
+pub fn messages_use_their_blocks()
+    ensures commands { (log : Log) → IsLawful log.meaning log.script → (front : List Head) (here : Head) → Succeeds log (front ++ here ∷ [])
+        → AllByRecursion (λ command. AllByRecursion (λ touch. MayUse log front here touch.range.block) (touches command)) (made_of log (front ++ here ∷ [])).listed }
+    ensures writes { (log : Log) → IsLawful log.meaning log.script → (front : List Head) (here : Head) → Succeeds log (front ++ here ∷ [])
+        → AllByRecursion (λ written. MayUse log front here written.range.block) (made_of log (front ++ here ∷ [])).writes }
+    ensures buffers { (log : Log) → IsLawful log.meaning log.script → (front : List Head) (here : Head) → Succeeds log (front ++ here ∷ [])
+        → (buffer block : ℕ) → (made_of log (front ++ here ∷ [])).blocks buffer ≡ Some block → MayUse log front here block }
+{}
+
+/// The law of what a message takes, in every succession. A block that one of its items takes is no buffer's that lived before
+/// it, and no earlier item of the message took it. And where it stages bytes, no item takes a block, of it or of those before it.
+pub fn taken_blocks_are_apart()
+    ensures strange { (log : Log) (front : List Head) (here : Head) → Succeeds log (front ++ here ∷ [])
+        → (before : List Placed) (place : Placed) (after : List Placed) (block : ℕ) → here.placed ≡ before ++ place ∷ after → place.block ≡ Some block
+        → (buffer : ℕ) → (made_of log front).blocks buffer ≡ Some block → ⊥ }
+    ensures once { (log : Log) (front : List Head) (here : Head) → Succeeds log (front ++ here ∷ [])
+        → (before : List Placed) (place : Placed) (after : List Placed) (block : ℕ) → here.placed ≡ before ++ place ∷ after → place.block ≡ Some block
+        → takes block before ≡ false }
+    ensures pages { (log : Log) (front : List Head) (here : Head) → Succeeds log (front ++ here ∷ [])
+        → AllByRecursion (λ range. takes range.block (all_places (places_in front) ++ here.placed) ≡ false) (staged_ranges here.placed) }
+{}
+
+/// The law of held blocks, in every succession. The buffers that live behind messages have blocks of their own, and each of
+/// these is held: an item took it, and since then none took it again and none gave it up.
+pub fn used_blocks_are_held()
+    ensures held { (log : Log) (front : List Head) (here : Head) → Succeeds log (front ++ here ∷ []) → (buffer block : ℕ)
+        → (made_of log (front ++ here ∷ [])).blocks buffer ≡ Some block → IsHeldBy (all_places (places_in (front ++ here ∷ []))) block }
+    ensures own { (log : Log) (front : List Head) (here : Head) → Succeeds log (front ++ here ∷ []) → (buffer other block : ℕ)
+        → (made_of log (front ++ here ∷ [])).blocks buffer ≡ Some block → (made_of log (front ++ here ∷ [])).blocks other ≡ Some block → buffer ≡ other }
 {}

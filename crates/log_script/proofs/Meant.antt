@@ -11,3 +11,4 @@ pub mod AgreeingPlays
 pub mod AgreeingLists
 pub mod AgreeingLogs
 pub mod AgreeingReplies
+pub mod Modules
