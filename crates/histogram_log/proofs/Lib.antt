@@ -1,0 +1,5 @@
+pub mod Spelled
+pub mod Calls
+pub mod Lengths
+pub mod Logs
+pub mod PollCount
