@@ -1,6 +1,5 @@
-pub mod Lesser
 pub mod Bytes
 pub mod PerBlock
-pub mod Conflicts
+pub mod Touched
 pub mod Since
 pub mod Covers

@@ -1,4 +1,4 @@
 pub mod Tracked
-pub mod Least
-pub mod Ranges
+pub mod Touched
+pub mod Bytes
 pub mod Since

@@ -1,17 +1,15 @@
-//! The bytes of all blocks, by disjoint ranges.
+//! A set of the bytes of all blocks.
 
-ghost use Rattle.std.specs.Prelude.{◌≡◌, ◌<◌, [], None, OnOk, OnErr};
-ghost use Rattle.barrier_track.specs.Least.{IsLeast};
-ghost use Rattle.barrier_track.specs.Ranges.{AddsTouch, ConflictsTouch, KeepsBytes, ranges_of};
+ghost use Rattle.std.specs.Prelude.{◌≡◌, ◌<◌, [], true, OnOk, OnErr};
+ghost use Rattle.barrier_track.specs.Bytes.{AddsIf, KeepsBytes, Meets, has_byte, ranges_of};
 
-use crate::least::Least;
 use crate::ranges::Ranges;
+use dx_types::Range;
 use std::alloc::{AllocError, Global};
 use std::collections::BTreeMap;
 use std::marker::Model;
-use vk_types::Touch;
 
-/// The ranges of each block that was touched.
+/// The bytes of each block that has some.
 #[derive(Drop)]
 pub struct Blocks {
     alloc: Global,
@@ -19,7 +17,7 @@ pub struct Blocks {
 }
 
 impl Model for Blocks {
-    ghost use Rattle.barrier_track.specs.Ranges as bytes;
+    ghost use Rattle.barrier_track.specs.Bytes as bytes;
 
     ghost Value = { bytes.Blocks };
 
@@ -27,7 +25,7 @@ impl Model for Blocks {
 }
 
 impl Blocks {
-    /// No byte is touched.
+    /// No byte.
     pub fn new(alloc: Global) -> Blocks
         ensures { result ≡ [] }
     {
@@ -37,52 +35,50 @@ impl Blocks {
         }
     }
 
-    /// No byte is touched any more.
+    /// No byte any more.
     pub fn clear(&mut self)
         ensures { self.new ≡ [] }
     {
         self.ranges.clear();
     }
 
-    /// The least command that conflicts with the touch.
-    pub fn conflict(&self, t: &Touch) -> Option<u64>
-        ensures { IsLeast (ConflictsTouch self.now t.now) result }
+    /// Whether a byte of the range is in the set.
+    pub fn meets(&self, range: &Range) -> bool
+        ensures { Meets (has_byte self.now range.now.block) range.now.from range.now.to result }
     {
-        let range = t.range;
         if range.to <= range.from {
-            return None;
+            return false;
         }
         match self.ranges.get(&range.block) {
-            Some(ranges) => ranges.conflict(range.from, range.to, t.access),
-            None => None,
+            Some(ranges) => ranges.meets(range.from, range.to),
+            None => false,
         }
     }
 
-    /// The bytes of the touch have this too. Where memory runs out each byte has what it had.
-    pub fn add(&mut self, t: &Touch, least: Least) -> Result<(), AllocError>
-        ensures added { OnOk result (AddsTouch self.old t.now least self.new) }
+    /// The bytes of the range are in the set too. Where memory runs out each byte is as it was.
+    pub fn add(&mut self, range: &Range) -> Result<(), AllocError>
+        ensures added { OnOk result (AddsIf true self.old range.now self.new) }
         ensures same { OnErr result (KeepsBytes self.old self.new) }
     {
-        let range = t.range;
         if range.to <= range.from {
             return Ok(());
         }
         match self.ranges.get_mut(&range.block) {
-            Some(ranges) => ranges.add(range.from, range.to, least),
-            None => self.add_first(t, least),
+            Some(ranges) => ranges.add(range.from, range.to),
+            None => self.add_first(range),
         }
     }
 
-    // The first touch of a block.
-    fn add_first(&mut self, t: &Touch, least: Least) -> Result<(), AllocError>
-        requires some { t.now.range.from < t.now.range.to }
-        requires first { ranges_of self.old t.now.range.block ≡ [] }
-        ensures added { OnOk result (AddsTouch self.old t.now least self.new) }
+    // The first bytes of a block.
+    fn add_first(&mut self, range: &Range) -> Result<(), AllocError>
+        requires some { range.now.from < range.now.to }
+        requires first { ranges_of self.old range.now.block ≡ [] }
+        ensures added { OnOk result (AddsIf true self.old range.now self.new) }
         ensures same { OnErr result (KeepsBytes self.old self.new) }
     {
         let mut ranges = Ranges::new(self.alloc);
-        ranges.add(t.range.from, t.range.to, least)?;
-        self.ranges.insert(t.range.block, ranges)?;
+        ranges.add(range.from, range.to)?;
+        self.ranges.insert(range.block, ranges)?;
         Ok(())
     }
 }

@@ -9,9 +9,9 @@ ghost use Rattle.vk_types.specs.declared.op.VkOp.{VkOp};
 ghost use Rattle.vk_types.specs.declared.op.VkOp.TheVariants as op;
 
 mod blocks;
-mod least;
 mod ranges;
 mod stages;
+mod touches;
 mod tracker;
 
 pub use tracker::Tracker;

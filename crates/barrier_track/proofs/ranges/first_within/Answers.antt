@@ -1,6 +1,6 @@
 use Rattle.std.proofs.Common.{◌<◌, ◌≤◌, arith}
 use Rattle.std.proofs.lemmas.Map.Keys.{le_from_not_gt}
-use Rattle.barrier_track.specs.Ranges.{start_of}
+use Rattle.barrier_track.specs.Bytes.{start_of}
 use Rattle.barrier_track.proofs.Bytes.{not_gt_from_le, less_from_lt, lt_from_less, none_unless}
 use Rattle.barrier_track.proofs.ranges.first_within.Goals as goal
 

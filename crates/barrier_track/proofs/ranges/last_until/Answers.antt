@@ -1,6 +1,6 @@
 use Rattle.std.proofs.Common.{◌≤◌, arith}
 use Rattle.std.proofs.lemmas.Map.Keys.{le_from_not_gt, ge_from_not_lt}
-use Rattle.barrier_track.specs.Ranges.{start_of}
+use Rattle.barrier_track.specs.Bytes.{start_of}
 use Rattle.barrier_track.proofs.Bytes.{not_gt_from_le, none_unless}
 use Rattle.barrier_track.proofs.ranges.last_until.Goals as goal
 

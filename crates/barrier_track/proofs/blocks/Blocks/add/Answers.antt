@@ -1,9 +1,9 @@
-use Rattle.std.proofs.Common.{ℕ, refl, sym, ap, subst, ◌∙◌}
+use Rattle.std.proofs.Common.{ℕ, true, refl, sym, ap, subst, ◌∙◌}
 use Rattle.std.specs.Prelude.{IsSome, OnErr}
 use Rattle.std.specs.BTreeMap.{BTreeMap}
 use Rattle.std.proofs.lemmas.Result.{on_ok_weaker, on_err_weaker}
-use Rattle.barrier_track.specs.Ranges.{Ranges, Blocks, ranges_if, AddsTouch, KeepsBytes}
-use Rattle.barrier_track.proofs.PerBlock.{adds_touch, keeps_touch}
+use Rattle.barrier_track.specs.Bytes.{Ranges, Blocks, ranges_if, AddsIf, KeepsBytes}
+use Rattle.barrier_track.proofs.PerBlock.{adds_range, keeps_range}
 use Rattle.barrier_track.proofs.blocks.Blocks.add.Goals as goal
 
 pub returns-in-Some-clause-added : goal.returns-in-Some-clause-added
@@ -13,8 +13,8 @@ returns-in-Some-clause-added c = on_ok_weaker c.add.result (λ adds.
     let fs = (c.get_mut.follows.lender new).entries in
     let found = c.in-Some.ensures.value in
     let puts = (c.get_mut.follows.holds new).3 (subst IsSome found refl) in
-    subst (λ (bs : Blocks). AddsTouch bs c.args.t.now c.args.least fs) c.self.view_is
-    (adds_touch es fs c.args.t.now c.args.least c.in-Some.ranges.now new (sym (ap ranges_if found)) adds puts.0)
+    subst (λ (bs : Blocks). AddsIf true bs c.args.range.now fs) c.self.view_is
+    (adds_range es fs c.args.range.now c.in-Some.ranges.now new (sym (ap ranges_if found)) adds puts.0)
     ) c.add.ensures.added
 
 pub returns-in-Some-clause-same : goal.returns-in-Some-clause-same
@@ -25,7 +25,7 @@ returns-in-Some-clause-same c = on_err_weaker c.add.result (λ same.
     let found = c.in-Some.ensures.value in
     let puts = (c.get_mut.follows.holds new).3 (subst IsSome found refl) in
     subst (λ (bs : Blocks). KeepsBytes bs fs) c.self.view_is
-    (keeps_touch es fs c.args.t.now.range.block c.in-Some.ranges.now new (sym (ap ranges_if found)) same puts.0)
+    (keeps_range es fs c.args.range.now.block c.in-Some.ranges.now new (sym (ap ranges_if found)) same puts.0)
     ) c.add.ensures.same
 
 pub returns-in-None-clause-same : goal.returns-in-None-clause-same

@@ -1,7 +1,0 @@
-use Rattle.std.proofs.Common.{◌≡◌, drop}
-use Rattle.vk_types.specs.BarrierCauses.{lesser}
-use Rattle.barrier_track.specs.Since.{least_seen}
-use Rattle.barrier_track.proofs.tracker.least_of_latest.Given as goal
-
-abbrev pub invariant-loop-s : goal.invariant-loop-s
-invariant-loop-s l = lesser l.least (least_seen l.c (drop l.s-index l.latest)) ≡ least_seen l.c l.latest
