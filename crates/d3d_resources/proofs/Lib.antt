@@ -1,2 +1,3 @@
 pub mod CheckOrder
+pub mod LeastClass
 pub mod KeptTotals

@@ -1,8 +1,9 @@
 ghost use Rattle.std.specs.Prelude.{◌≡◌, ℕ, ◌+◌, ◌<◌, ◌≤◌, slice_index};
 ghost use Rattle.d3d_model.specs.Resource.{class_of, is_dynamic, counts_as};
+ghost use Rattle.dx_types.specs.Classes.{class_length};
 ghost use Rattle.dx_types.specs.declared.limits.TheConstants.{MAX_DYNAMIC_OF_CLASS};
 
-use dx_types::limits::CLASSES;
+use dx_types::limits::{CLASSES, LEAST_BLOCK};
 use dx_types::{Shape, Usage};
 
 /// The least class whose blocks hold this many bytes, and the greatest for what none holds.
@@ -10,16 +11,20 @@ pub(crate) fn class_of(size: u64) -> usize
     ensures value { result ≡ class_of size }
     ensures in_range { result < CLASSES }
 {
-    match size {
-        0..=256 => 0,
-        257..=1_024 => 1,
-        1_025..=4_096 => 2,
-        4_097..=16_384 => 3,
-        16_385..=65_536 => 4,
-        65_537..=262_144 => 5,
-        262_145..=1_048_576 => 6,
-        _ => 7,
+    'classes: for class in 0..CLASSES - 1 {
+        if size <= class_length(class) {
+            return class;
+        }
     }
+    CLASSES - 1
+}
+
+// The bytes of a block of a class.
+fn class_length(class: usize) -> u64
+    requires { class < CLASSES }
+    ensures { result ≡ class_length class }
+{
+    LEAST_BLOCK * 4_u64.pow(class as u32)
 }
 
 pub(crate) fn is_dynamic(shape: &Shape) -> bool

@@ -7,7 +7,7 @@ use Rattle.std.specs.Ordering.{nat_cmp}
 use Rattle.std.proofs.lemmas.Bool.Decides.{same_from_decides}
 use Rattle.std.proofs.lemmas.Bool.{ltb-true, lt-ltb, or_cases, or_left, or_right, le-ltb, cases_order, cases_lt, cases_eq, and_left, and_from, and_parts, le-leb, leb-true, cond-true, cond-false, false_from_ne_true}
 use Rattle.std.specs.BTreeMap.{is_at}
-use Rattle.d3d_uses.specs.Ranges.{Ranges, Adds, overlap, meet_any, end_of, IsApart, IsLast, JoinsStart, JoinsEnd, RemovesBetween, is_between}
+use Rattle.d3d_uses.specs.Ranges.{Ranges, Adds, overlap, meet_any, end_of, IsApart, IsLast, JoinsStart, JoinsEnd, IsAlone, Joins, RemovesBetween, is_between}
 use Rattle.d3d_uses.proofs.Bytes.{same_place, other_place, Met, meet_any-Decides}
 
 -- a range without a byte meets none
@@ -48,6 +48,13 @@ last_decides rs from to start end sorted apart lt last =
         ]
 
 -- ---- an addition
+
+some_none : {o : Option ℕ} {b : ℕ} → o ≡ None → o ≡ Some b → ⊥
+some_none e f = absurd cc
+
+none_else : (o : Option ℕ) → ((b : ℕ) → o ≡ Some b → ⊥) → o ≡ None
+none_else None h = refl
+none_else (Some b) h = absurd (h b refl)
 
 -- the new ranges have one from `start` to `end` in place of the old ones that begin there
 pub record IsMerged (old : Ranges) (start end : ℕ) (new : Ranges) : Type 0 where
@@ -119,3 +126,64 @@ module _ (old new : Ranges) (from to start end : ℕ) (apart : IsApart old) (lt 
           | inr h ↦ or_right _ _ (old_is.1 h)
         ],
       )
+
+  was_old : (a b : ℕ) → a ≢ start → end_of new a ≡ Some b → end_of old a ≡ Some b
+  was_old a b other is = sym (m.kept a other (λ x y. some_none (m.gone a x y) is)) ∙ is
+
+  -- and are apart
+  apart_again : IsApart new
+  apart_again = record { full = full_again; gaps = gaps_again }
+    where
+      full_again : (a b : ℕ) → end_of new a ≡ Some b → a < b
+      full_again a b is = elim (cases_eq a start) [
+        | inl same ↦ omega (arith, same_end new a start b end same is m.here, s.before, e.after)
+        | inr other ↦ apart.full a b (was_old a b other is)
+      ]
+
+      gaps_again : (a b c d : ℕ) → end_of new a ≡ Some b → end_of new c ≡ Some d → a < c → b < c
+      gaps_again a b c d is_a is_c less = elim (cases_eq a start) [
+        | inl same ↦ elim (cases_lt end c) [
+          | inl past ↦ omega (arith, same_end new a start b end same is_a m.here)
+          | inr within ↦ absurd (some_none (m.gone c (omega arith) within) is_c)
+        ]
+        | inr other ↦ elim (cases_eq c start) [
+          | inl at ↦ omega (arith, s.apart a b (was_old a b other is_a) (omega arith))
+          | inr else ↦ apart.gaps a b c d (was_old a b other is_a) (was_old c d else is_c) less
+        ]
+      ]
+
+  pub joins : IsStrictlySortedBy nat_cmp (keys_of old) → IsStrictlySortedBy nat_cmp (keys_of new) → Joins old from to new
+  joins sorted_old sorted_new = record { adds = adds sorted_old sorted_new; apart = apart_again }
+
+-- ---- where the range that is met or touched is known
+
+-- what is put for it and the added bytes is a merged range
+pub merged_alone : (old new : Ranges) (from to start : ℕ) → IsAlone old from to start → ((a : ℕ) → end_of new a ≡ cond (is_at (nat_cmp start) a) (Some to) (end_of old a))
+    → IsMerged old start to new
+merged_alone old new from to start alone puts = record {
+  here = puts start ∙ cond-true _ (Some to) (end_of old start) (same_place start);
+  gone = λ a lt le. else_old a (λ e. omega arith) ∙ none_else (end_of old a) (λ b is. let at = alone.only a b is le in omega (arith, at.0));
+  kept = λ a other out. else_old a (λ e. other (sym e));
+}
+  where
+    else_old : (a : ℕ) → start ≢ a → end_of new a ≡ end_of old a
+    else_old a other = puts a ∙ cond-false _ (Some to) (end_of old a) (other_place start a other)
+
+pub ends_alone : (rs : Ranges) (from to start : ℕ) → IsAlone rs from to start → JoinsEnd rs to to
+ends_alone rs from to start alone = record { after = omega arith; own = λ lt. absurd (omega arith); covers = λ a b is le. (alone.only a b is le).1 }
+
+module _ (rs : Ranges) (from to start end : ℕ) (apart : IsApart rs) (lt : from < to) (last : IsLast rs to (Some (start, end))) (before : start ≤ from) where
+  -- the last has the added bytes already
+  pub joins_already : to ≤ end → IsStrictlySortedBy nat_cmp (keys_of rs) → Joins rs from to rs
+  joins_already covers sorted = record { adds = adds_none; apart = apart }
+    where
+      adds_none : Adds rs from to rs
+      adds_none x y =
+          let is = meet_any-Decides rs x y sorted in
+          same_from_decides (meet_any rs x y) (overlap x y (from, to) || meet_any rs x y) is (
+            λ t. elim (or_cases (overlap x y (from, to)) (meet_any rs x y) t) [
+              | inl h ↦ let share = ltb-true _ _ h in record { start = start; end = end; is = last.1; shares = omega (arith, share) }
+              | inr h ↦ is.0 h
+            ],
+            λ t. or_right _ _ (is.1 t),
+          )

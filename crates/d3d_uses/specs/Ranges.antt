@@ -49,6 +49,16 @@ pub record JoinsEnd (rs : Ranges) (to end : ℕ) : Type 0 where
   pub own : to < end → (a : ℕ) × (end_of rs a ≡ Some end) × (a ≤ to)
   pub covers : (a b : ℕ) → end_of rs a ≡ Some b → a ≤ to → b ≤ end
 
+-- an added range that ends at `to` and comes to begin at `start` takes in no range but one that begins there
+pub record IsAlone (rs : Ranges) (from to start : ℕ) : Type 0 where
+  pub starts : JoinsStart rs from start
+  pub only : (a b : ℕ) → end_of rs a ≡ Some b → a ≤ to → (a ≤ start) × (b ≤ to)
+
+-- the new ranges have the added bytes too, and are apart again
+pub record Joins (old : Ranges) (from to : ℕ) (new : Ranges) : Type 0 where
+  pub adds : Adds old from to new
+  pub apart : IsApart new
+
 abbrev pub is_between : ℕ → ℕ → ℕ → Bool
 is_between from to a = nat_lt from a && nat_le a to
 

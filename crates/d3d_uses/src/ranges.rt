@@ -1,7 +1,7 @@
-ghost use Rattle.std.specs.Prelude.{◌≡◌, [], OnErr, OnOk};
+ghost use Rattle.std.specs.Prelude.{◌≡◌, ◌<◌, ◌≤◌, [], IfSome, OnErr, OnOk};
 ghost use Rattle.std.specs.BTreeMap.{IsOrdered};
 ghost use Rattle.std.specs.Ordering.{nat_cmp};
-ghost use Rattle.d3d_uses.specs.Ranges.{Adds, IsApart, IsLast, IsLastBetween, JoinsEnd, JoinsStart, RemovesBetween, meet_any};
+ghost use Rattle.d3d_uses.specs.Ranges.{Adds, IsAlone, IsApart, IsLast, IsLastBetween, Joins, JoinsEnd, JoinsStart, RemovesBetween, meet_any};
 
 use std::alloc::{AllocError, Global};
 use std::collections::BTreeMap;
@@ -53,13 +53,14 @@ impl Ranges {
         ensures added { OnOk result (Adds self.old from to self.new) }
         ensures unchanged { OnErr result (self.new ≡ self.old) }
     {
-        if from < to {
-            let start = joined_start(&self.ends, from);
-            let end = joined_end(&self.ends, to);
-            self.ends.insert(start, end)?;
-            remove_between(&mut self.ends, start, end);
+        if to <= from {
+            return Ok(());
         }
-        Ok(())
+        let last = last_until(&self.ends, to);
+        match last {
+            Some((start, _)) if from < start => join_over(&mut self.ends, from, to),
+            _ => join_at(&mut self.ends, last, from, to),
+        }
     }
 
     /// No byte any more.
@@ -77,6 +78,62 @@ fn last_until(ends: &BTreeMap<u64, u64>, at: u64) -> Option<(u64, u64)>
 {
     let (start, end) = ends.range(..=at).next_back()?;
     Some((*start, *end))
+}
+
+/// Adds the bytes from `from` to just before `to` where of the ranges that begin at `to` or before it the last, which is
+/// given, does not begin after `from`: no other range meets or touches them.
+fn join_at(
+    ends: &mut BTreeMap<u64, u64>,
+    last: Option<(u64, u64)>,
+    from: u64,
+    to: u64,
+) -> Result<(), AllocError>
+    requires full { from < to }
+    requires apart { IsApart ends.old.entries }
+    requires ordered { IsOrdered nat_cmp ends.old }
+    requires last { IsLast ends.old.entries to last }
+    requires before { IfSome last (λ r. r.0 ≤ from) }
+    ensures joined { OnOk result (Joins ends.old.entries from to ends.new.entries) }
+    ensures unchanged { OnErr result (ends.new.entries ≡ ends.old.entries) }
+{
+    match last {
+        Some((_, end)) if to <= end => Ok(()),
+        Some((start, end)) if from <= end => put_alone(ends, from, start, to),
+        _ => put_alone(ends, from, from, to),
+    }
+}
+
+/// Adds the bytes from `from` to just before `to` as a range from `start`, where no other range meets or touches it.
+fn put_alone(
+    ends: &mut BTreeMap<u64, u64>,
+    from: u64,
+    start: u64,
+    to: u64,
+) -> Result<(), AllocError>
+    requires full { from < to }
+    requires apart { IsApart ends.old.entries }
+    requires ordered { IsOrdered nat_cmp ends.old }
+    requires alone { IsAlone ends.old.entries from to start }
+    ensures joined { OnOk result (Joins ends.old.entries from to ends.new.entries) }
+    ensures unchanged { OnErr result (ends.new.entries ≡ ends.old.entries) }
+{
+    ends.insert(start, to)?;
+    Ok(())
+}
+
+/// Adds the bytes from `from` to just before `to`, whatever ranges they meet or touch.
+fn join_over(ends: &mut BTreeMap<u64, u64>, from: u64, to: u64) -> Result<(), AllocError>
+    requires full { from < to }
+    requires apart { IsApart ends.old.entries }
+    requires ordered { IsOrdered nat_cmp ends.old }
+    ensures joined { OnOk result (Joins ends.old.entries from to ends.new.entries) }
+    ensures unchanged { OnErr result (ends.new.entries ≡ ends.old.entries) }
+{
+    let start = joined_start(ends, from);
+    let end = joined_end(ends, to);
+    ends.insert(start, end)?;
+    remove_between(ends, start, end);
+    Ok(())
 }
 
 /// Where the range begins that meets or touches `from`, or `from` itself.
