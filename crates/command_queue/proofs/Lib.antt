@@ -1,0 +1,5 @@
+pub mod Sets
+pub mod Flags
+pub mod Passing
+pub mod Ready
+pub mod Laws
