@@ -1,12 +1,14 @@
 -- What places say of each byte.
-use Rattle.std.proofs.Common.{◌≡◌, ℕ, zero, suc, ◌+◌, ◌-◌, ◌<◌, ◌≤◌, ◌⊎◌, inl, inr, Bool, true, false, cond, ◌||◌, Option, Some, None, refl, sym, ap, ◌∙◌, subst, arith}
+use Rattle.std.proofs.Common.{◌≡◌, ℕ, zero, suc, ◌+◌, ◌-◌, ◌<◌, ◌≤◌, inl, inr, Bool, true, false, cond, ◌||◌, Option}
+use Rattle.std.proofs.Common.{Some, None, refl, sym, ap, ◌∙◌, subst, arith}
 use Rattle.std.specs.Prelude.{IsSome}
 use Rattle.std.specs.Ordering.{nat_cmp, is_gt}
 use Rattle.std.specs.declared.cmp.Ordering.TheVariants.{Less}
 use Rattle.std.specs.BTreeMap.{is_at}
 use Rattle.std.proofs.lemmas.Bool.{cases_eq, cases_lt, cond-true, cond-false}
 use Rattle.std.proofs.lemmas.Bool.Decides.{nat_tests}
-use Rattle.barrier_track.specs.Bytes.{Ranges, start_of, or_else, byte_by, byte_at, is_within, Adds, IsSame, IsLast, Forgets, Meets}
+use Rattle.barrier_track.specs.Bytes.{Ranges, start_of, or_else, byte_by, byte_at, is_within, Adds, IsSame, IsLast}
+use Rattle.barrier_track.specs.Bytes.{Forgets}
 
 -- ---- tests of places
 
@@ -43,25 +45,31 @@ byte_before starts at e = ap (λ o. or_else o (byte_by starts at)) e
 
 pub byte_none : (starts : ℕ → Option Bool) (at : ℕ) → ((a : ℕ) → a ≤ at → starts a ≡ None) → byte_by starts at ≡ false
 byte_none starts zero none = ap (λ o. or_else o false) (none zero (omega arith))
-byte_none starts (suc at) none = byte_before starts at (none (suc at) (omega arith)) ∙ byte_none starts at (λ a le. none a (omega arith))
+byte_none starts (suc at) none =
+    byte_before starts at (none (suc at) (omega arith)) ∙ byte_none starts at (λ a le. none a (omega arith))
 
 -- there is no place after a byte up to another
-pub byte_steady : (starts : ℕ → Option Bool) (from at : ℕ) → from ≤ at → ((a : ℕ) → from < a → a ≤ at → starts a ≡ None) → byte_by starts at ≡ byte_by starts from
+pub byte_steady : (starts : ℕ → Option Bool) (from at : ℕ) → from ≤ at → ((a : ℕ) → from < a → a ≤ at → starts a ≡ None)
+    → byte_by starts at ≡ byte_by starts from
 byte_steady starts from zero le none = let same : zero ≡ from = omega arith in ap (byte_by starts) same
 byte_steady starts from (suc at) le none =
     elim (cases_lt at from) [
       | inl lt ↦ let same : suc at ≡ from = omega arith in ap (byte_by starts) same
-      | inr ge ↦ byte_before starts at (none (suc at) (omega arith) (omega arith)) ∙ byte_steady starts from at ge (λ a lo hi. none a lo (omega arith))
+      | inr ge ↦
+          byte_before starts at (none (suc at) (omega arith) (omega arith))
+          ∙ byte_steady starts from at ge (λ a lo hi. none a lo (omega arith))
     ]
 
 -- the places up to a byte are the same
 byte_alike : (f g : ℕ → Option Bool) (at : ℕ) → ((a : ℕ) → a ≤ at → f a ≡ g a) → byte_by f at ≡ byte_by g at
 byte_alike f g zero same = ap (λ o. or_else o false) (same zero (omega arith))
 byte_alike f g (suc at) same =
-    ap (λ o. or_else o (byte_by f at)) (same (suc at) (omega arith)) ∙ ap (or_else (g (suc at))) (byte_alike f g at (λ a le. same a (omega arith)))
+    ap (λ o. or_else o (byte_by f at)) (same (suc at) (omega arith))
+    ∙ ap (or_else (g (suc at))) (byte_alike f g at (λ a le. same a (omega arith)))
 
 -- a place is there, and from it on the places are the same
-byte_from : (f g : ℕ → Option Bool) (start : ℕ) (b : Bool) (at : ℕ) → g start ≡ Some b → start ≤ at → ((a : ℕ) → start ≤ a → f a ≡ g a) → byte_by f at ≡ byte_by g at
+byte_from : (f g : ℕ → Option Bool) (start : ℕ) (b : Bool) (at : ℕ) → g start ≡ Some b → start ≤ at
+    → ((a : ℕ) → start ≤ a → f a ≡ g a) → byte_by f at ≡ byte_by g at
 byte_from f g start b zero some le same = ap (λ o. or_else o false) (same zero le)
 byte_from f g start b (suc at) some le same =
     elim (cases_eq (suc at) start) [
@@ -69,7 +77,8 @@ byte_from f g start b (suc at) some le same =
           let there : g (suc at) ≡ Some b = ap g is ∙ some in
           byte_here f (suc at) b (same (suc at) le ∙ there) ∙ sym (byte_here g (suc at) b there)
       | inr other ↦
-          ap (λ o. or_else o (byte_by f at)) (same (suc at) le) ∙ ap (or_else (g (suc at))) (byte_from f g start b at some (omega arith) same)
+          ap (λ o. or_else o (byte_by f at)) (same (suc at) le)
+          ∙ ap (or_else (g (suc at))) (byte_from f g start b at some (omega arith) same)
     ]
 
 pub byte_last : (rs : Ranges) (at start : ℕ) (b : Bool) → IsLast rs at (Some (start, b)) → b ≡ byte_at rs at
@@ -82,7 +91,8 @@ byte_start rs at b e = byte_here (start_of rs) at b e
 -- ---- a place more
 
 -- a place says what the byte was, and all others are where they were
-pub same_split : (old new : Ranges) (at : ℕ) (b : Bool) → b ≡ byte_at old at → ((a : ℕ) → start_of new a ≡ cond (is_at (nat_cmp at) a) (Some b) (start_of old a)) → IsSame old new
+pub same_split : (old new : Ranges) (at : ℕ) (b : Bool) → b ≡ byte_at old at
+    → ((a : ℕ) → start_of new a ≡ cond (is_at (nat_cmp at) a) (Some b) (start_of old a)) → IsSame old new
 same_split old new at b is puts = go
   where
     kept : (a : ℕ) → (a ≡ at → ⊥) → start_of new a ≡ start_of old a
@@ -96,7 +106,8 @@ same_split old new at b is puts = go
     go zero = elim (cases_eq zero at) [ inl same ↦ here zero same | inr other ↦ ap (λ o. or_else o false) (kept zero other) ]
     go (suc a) = elim (cases_eq (suc a) at) [
       | inl same ↦ here (suc a) same
-      | inr other ↦ ap (λ o. or_else o (byte_at new a)) (kept (suc a) other) ∙ ap (or_else (start_of old (suc a))) (go a)
+      | inr other ↦
+          ap (λ o. or_else o (byte_at new a)) (kept (suc a) other) ∙ ap (or_else (start_of old (suc a))) (go a)
     ]
 
 pub same_both : (old mid new : Ranges) → IsSame old mid → IsSame mid new → IsSame old new
@@ -111,13 +122,18 @@ forgets_none rs from a = sym (cond-false (is_within from from a) None (start_of 
     none a = grind (arith, nat_tests)
 
 -- there is no place from the one so far to another
-pub forgets_on : (old cur : Ranges) (from at end : ℕ) → from ≤ at → at ≤ end → Forgets old from at cur → ((a : ℕ) → at ≤ a → a < end → start_of cur a ≡ None) → Forgets old from end cur
+pub forgets_on : (old cur : Ranges) (from at end : ℕ) → from ≤ at → at ≤ end → Forgets old from at cur
+    → ((a : ℕ) → at ≤ a → a < end → start_of cur a ≡ None) → Forgets old from end cur
 forgets_on old cur from at end lo hi forgets none a =
     elim (cases_lt a at) [
       | inl before ↦ forgets a ∙ ap (λ b. cond b None (start_of old a)) (alike a before)
       | inr from_at ↦ elim (cases_lt a end) [
-        | inl inside ↦ none a from_at inside ∙ sym (cond-true (is_within from end a) None (start_of old a) (within from end a (omega arith) inside))
-        | inr past ↦ forgets a ∙ cond-false (is_within from at a) None (start_of old a) (above from at a from_at) ∙ sym (cond-false (is_within from end a) None (start_of old a) (above from end a past))
+        | inl inside ↦
+            none a from_at inside
+            ∙ sym (cond-true (is_within from end a) None (start_of old a) (within from end a (omega arith) inside))
+        | inr past ↦
+            forgets a ∙ cond-false (is_within from at a) None (start_of old a) (above from at a from_at)
+            ∙ sym (cond-false (is_within from end a) None (start_of old a) (above from end a past))
       ]
     ]
   where
@@ -131,7 +147,8 @@ forgets_one old cur new from at lo forgets puts a =
     elim (cases_eq a at) [
       | inl same ↦
           puts a ∙ cond-true (is_at (nat_cmp at) a) None (start_of cur a) (ap (is_at (nat_cmp at)) same ∙ same_place at)
-          ∙ sym (cond-true (is_within from (at + 1) a) None (start_of old a) (within from (at + 1) a (omega arith) (omega arith)))
+          ∙ sym (cond-true (is_within from (at + 1) a) None (start_of old a)
+          (within from (at + 1) a (omega arith) (omega arith)))
       | inr other ↦
           puts a ∙ cond-false (is_at (nat_cmp at) a) None (start_of cur a) (other_place at a other)
           ∙ forgets a ∙ ap (λ b. cond b None (start_of old a)) (alike a other)
@@ -144,19 +161,23 @@ forgets_one old cur new from at lo forgets puts a =
 
 -- a place is there at the end, a place of bytes in the set is put at the first byte, and those between are forgotten
 pub added_bytes : (old mid new : Ranges) (from to : ℕ) → from < to → IsSome (start_of old to)
-    → ((a : ℕ) → start_of mid a ≡ cond (is_at (nat_cmp from) a) (Some true) (start_of old a)) → Forgets mid (from + 1) to new → Adds old from to new
+    → ((a : ℕ) → start_of mid a ≡ cond (is_at (nat_cmp from) a) (Some true) (start_of old a))
+    → Forgets mid (from + 1) to new → Adds old from to new
 added_bytes old mid new from to lt some puts forgets at =
     elim (cases_lt at from) [
       | inl before ↦
-          byte_alike (start_of new) (start_of old) at (λ a le. kept a (omega arith) (below (from + 1) to a (omega arith)))
+          byte_alike (start_of new) (start_of old) at
+          (λ a le. kept a (omega arith) (below (from + 1) to a (omega arith)))
           ∙ ap (λ b. b || byte_at old at) (sym (below from to at before))
       | inr from_at ↦ elim (cases_lt at to) [
         | inl inside ↦
-            byte_steady (start_of new) from at from_at (λ a lo hi. gone a lo (omega arith)) ∙ byte_here (start_of new) from true first
+            byte_steady (start_of new) from at from_at (λ a lo hi. gone a lo (omega arith))
+            ∙ byte_here (start_of new) from true first
             ∙ ap (λ b. b || byte_at old at) (sym (within from to at from_at inside))
         | inr past ↦
             let last = some_here (start_of old to) some in
-            byte_from (start_of new) (start_of old) to last.0 at last.1 past (λ a le. kept a (omega arith) (above (from + 1) to a le))
+            byte_from (start_of new) (start_of old) to last.0 at last.1 past
+            (λ a le. kept a (omega arith) (above (from + 1) to a le))
             ∙ ap (λ b. b || byte_at old at) (sym (above from to at past))
       ]
     ]
@@ -167,11 +188,14 @@ added_bytes old mid new from to lt some puts forgets at =
         ∙ puts a ∙ cond-false (is_at (nat_cmp from) a) (Some true) (start_of old a) (other_place from a other)
 
     gone : (a : ℕ) → from < a → a < to → start_of new a ≡ None
-    gone a lo hi = forgets a ∙ cond-true (is_within (from + 1) to a) None (start_of mid a) (within (from + 1) to a (omega arith) hi)
+    gone a lo hi =
+        forgets a
+        ∙ cond-true (is_within (from + 1) to a) None (start_of mid a) (within (from + 1) to a (omega arith) hi)
 
     first : start_of new from ≡ Some true
     first =
-        forgets from ∙ cond-false (is_within (from + 1) to from) None (start_of mid from) (below (from + 1) to from (omega arith))
+        forgets from
+        ∙ cond-false (is_within (from + 1) to from) None (start_of mid from) (below (from + 1) to from (omega arith))
         ∙ puts from ∙ cond-true (is_at (nat_cmp from) from) (Some true) (start_of old from) (same_place from)
 
 -- the same, where the bytes before are those of other places
@@ -188,12 +212,14 @@ pub none_begun : (rs : Ranges) (from : ℕ) → byte_at rs from ≡ false → No
 none_begun rs from e a lo hi = let same : a ≡ from = omega arith in ap (byte_at rs) same ∙ e
 
 -- there is no place from the one so far to another
-pub none_on : (rs : Ranges) (from at end : ℕ) → from < at → NoneUntil rs from at → ((a : ℕ) → at ≤ a → a < end → start_of rs a ≡ None) → NoneUntil rs from end
+pub none_on : (rs : Ranges) (from at end : ℕ) → from < at → NoneUntil rs from at
+    → ((a : ℕ) → at ≤ a → a < end → start_of rs a ≡ None) → NoneUntil rs from end
 none_on rs from at end lt none gap a lo hi =
     elim (cases_lt a at) [
       | inl before ↦ none a lo before
       | inr from_at ↦
-          byte_steady (start_of rs) (at - 1) a (omega arith) (λ b l h. gap b (omega arith) (omega arith)) ∙ none (at - 1) (omega arith) (omega arith)
+          byte_steady (start_of rs) (at - 1) a (omega arith) (λ b l h. gap b (omega arith) (omega arith))
+          ∙ none (at - 1) (omega arith) (omega arith)
     ]
 
 pub none_one : (rs : Ranges) (from at : ℕ) → NoneUntil rs from at → byte_at rs at ≡ false → NoneUntil rs from (at + 1)

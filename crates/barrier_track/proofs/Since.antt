@@ -1,5 +1,7 @@
 -- What a tracker knows once one more command is listed.
-use Rattle.std.proofs.Common.{◌≡◌, ℕ, zero, suc, ◌+◌, ◌<◌, Bool, true, false, cond, ◌||◌, min, List, [], ◌∷◌, ◌++◌, map, take, length, slice_get, Option, Some, None, is_some, refl, sym, ap, ◌∙◌, subst, arith, add-one, append_assoc}
+use Rattle.std.proofs.Common.{◌≡◌, ℕ, zero, suc, ◌+◌, ◌<◌, Bool, true, false, cond, ◌||◌, min, List, [], ◌∷◌, ◌++◌, map}
+use Rattle.std.proofs.Common.{take, length, slice_get, Option, Some, None, is_some, refl, sym, ap, ◌∙◌, subst, arith}
+use Rattle.std.proofs.Common.{add-one, append_assoc}
 use Rattle.std.specs.List.{list_any, flat_map}
 use Rattle.std.proofs.lemmas.List.Folds.{list_any-append}
 use Rattle.vk_types.specs.declared.touch.Touch.{Touch}
@@ -8,7 +10,8 @@ use Rattle.vk_types.specs.declared.op.Barrier.{Barrier}
 use Rattle.vk_types.specs.declared.access.Stage.{Stage}
 use Rattle.vk_types.specs.declared.access.Stage.TheVariants as stage
 use Rattle.vk_types.specs.Hazards.{touches, touches_conflict, conflict, has_stage}
-use Rattle.vk_types.specs.BarrierCauses.{lesser, least_conflict, caused, barrier_before, since_barrier, recent_after, writes_at}
+use Rattle.vk_types.specs.BarrierCauses.{lesser, least_conflict, caused, barrier_before, since_barrier, recent_after}
+use Rattle.vk_types.specs.BarrierCauses.{writes_at}
 use Rattle.barrier_track.specs.declared.stages.StageUse.{StageUse}
 use Rattle.barrier_track.specs.declared.stages.Uses.{Uses}
 use Rattle.barrier_track.specs.declared.touches.Seen.{Seen}
@@ -57,17 +60,20 @@ least_is c (x ∷ xs) =
     least-append c (seen_by x) (flat_map seen_by xs)
     ∙ (ap (λ o. lesser o (least_seen c (flat_map seen_by xs))) (least_one c x.number (touches x)) ∙ ap (lesser (cond (conflict x c) (Some x.number) None)) (least_is c xs))
 
-cause_is : (recent : List Command) (c : Command) (first : Option ℕ) → cause_of (uses_of recent) first c.number ≡ caused recent c first
+cause_is : (recent : List Command) (c : Command) (first : Option ℕ)
+    → cause_of (uses_of recent) first c.number ≡ caused recent c first
 cause_is recent c None = refl
 cause_is recent c (Some first) = refl
 
 -- ---- the barrier before a command, by what the tracker knows
 
-pub barrier_is : (old : Tracked) (recent : List Command) (c : Command) (first : Option ℕ) (b : Option Barrier) → first ≡ least_seen c old.seen
+pub barrier_is : (old : Tracked) (recent : List Command) (c : Command) (first : Option ℕ) (b : Option Barrier)
+    → first ≡ least_seen c old.seen
     → b ≡ cause_of old.uses first c.number → IsSince old recent → b ≡ barrier_before recent c
 barrier_is old recent c first b cause is s =
     let found : first ≡ least_conflict recent c = cause ∙ ap (least_seen c) s.seen ∙ least_is c recent in
-    is ∙ ap (λ u. cause_of u first c.number) s.uses ∙ ap (λ o. cause_of (uses_of recent) o c.number) found ∙ cause_is recent c (least_conflict recent c)
+    is ∙ ap (λ u. cause_of u first c.number) s.uses ∙ ap (λ o. cause_of (uses_of recent) o c.number) found
+    ∙ cause_is recent c (least_conflict recent c)
 
 -- One more command -----------------------------------------------------------------------------------------------
 
@@ -81,9 +87,11 @@ flat_more [] c = end (seen_by c)
     end : (l : List Seen) → l ++ [] ≡ l
     end [] = refl
     end (x ∷ l) = ap (λ l. x ∷ l) (end l)
-flat_more (x ∷ xs) c = ap (λ l. seen_by x ++ l) (flat_more xs c) ∙ sym (append_assoc (seen_by x) (flat_map seen_by xs) (seen_by c))
+flat_more (x ∷ xs) c =
+    ap (λ l. seen_by x ++ l) (flat_more xs c) ∙ sym (append_assoc (seen_by x) (flat_map seen_by xs) (seen_by c))
 
-use_path : (a b c d : Bool) → a ≡ b → c ≡ d → let x : StageUse = record { named = a; writes = c } in let y : StageUse = record { named = b; writes = d } in x ≡ y
+use_path : (a b c d : Bool) → a ≡ b → c ≡ d
+    → let x : StageUse = record { named = a; writes = c } in let y : StageUse = record { named = b; writes = d } in x ≡ y
 use_path a b c d e f = λ i. record { named = e i; writes = f i }
 
 use_more : (xs : List Command) (c : Command) (s : Stage) → use_of (xs ++ c ∷ []) s ≡ use_by (use_of xs s) c s
@@ -97,7 +105,8 @@ uses_path : (i j k l m n : StageUse) → i ≡ j → k ≡ l → m ≡ n
 uses_path i j k l m n e f g = λ t. record { indirect = e t; compute = f t; transfer = g t }
 
 uses_more : (xs : List Command) (c : Command) → uses_of (xs ++ c ∷ []) ≡ used_by (uses_of xs) c
-uses_more xs c = uses_path _ _ _ _ _ _ (use_more xs c stage.Indirect) (use_more xs c stage.Compute) (use_more xs c stage.Transfer)
+uses_more xs c =
+    uses_path _ _ _ _ _ _ (use_more xs c stage.Indirect) (use_more xs c stage.Compute) (use_more xs c stage.Transfer)
 
 one_more : (old new : Tracked) (recent : List Command) (c : Command) → IsSince old recent
     → new.seen ≡ old.seen ++ seen_by c → new.uses ≡ used_by old.uses c → IsSince new (recent ++ c ∷ [])
@@ -110,23 +119,27 @@ one_more old new recent c s e u = record {
 pub since_none : (new : Tracked) → new.seen ≡ [] → new.uses ≡ unused → IsSince new []
 since_none new seen uses = record { seen = seen; uses = uses }
 
-after_none : (recent : List Command) (c : Command) (b : Option Barrier) → is_some b ≡ false → since_barrier recent c b ≡ recent ++ c ∷ []
+after_none : (recent : List Command) (c : Command) (b : Option Barrier) → is_some b ≡ false
+    → since_barrier recent c b ≡ recent ++ c ∷ []
 after_none recent c None e = refl
 after_none recent c (Some b) e = absurd (cc e)
 
-after_some : (recent : List Command) (c : Command) (b : Option Barrier) → is_some b ≡ true → since_barrier recent c b ≡ c ∷ []
+after_some : (recent : List Command) (c : Command) (b : Option Barrier) → is_some b ≡ true
+    → since_barrier recent c b ≡ c ∷ []
 after_some recent c None e = absurd (cc e)
 after_some recent c (Some b) e = refl
 
 -- no barrier stands before the command: it is added to the others
-pub added : (old new : Tracked) (recent : List Command) (c : Command) (b : Option Barrier) → IsSince old recent → b ≡ barrier_before recent c → is_some b ≡ false
+pub added : (old new : Tracked) (recent : List Command) (c : Command) (b : Option Barrier) → IsSince old recent
+    → b ≡ barrier_before recent c → is_some b ≡ false
     → new.seen ≡ old.seen ++ seen_by c → new.uses ≡ used_by old.uses c → IsSince new (recent_after recent c)
 added old new recent c b s is none g h =
     subst (IsSince new) (sym (after_none recent c (barrier_before recent c) (ap is_some (sym is) ∙ none)))
     (one_more old new recent c s g h)
 
 -- a barrier stands before it: it is the first since then
-pub begun : (new : Tracked) (recent : List Command) (c : Command) (b : Option Barrier) → b ≡ barrier_before recent c → is_some b ≡ true
+pub begun : (new : Tracked) (recent : List Command) (c : Command) (b : Option Barrier) → b ≡ barrier_before recent c
+    → is_some b ≡ true
     → new.seen ≡ seen_by c → new.uses ≡ used_by unused c → IsSince new (recent_after recent c)
 begun new recent c b is some g h =
     let empty : Tracked = record { seen = []; uses = unused; room = 0 } in
@@ -134,15 +147,18 @@ begun new recent c b is some g h =
     (one_more empty new [] c (since_none empty refl refl) g h)
 
 -- the touches and the stages are the same
-pub since_same : (old new : Tracked) (recent : List Command) → new.seen ≡ old.seen → new.uses ≡ old.uses → IsSince old recent → IsSince new recent
+pub since_same : (old new : Tracked) (recent : List Command) → new.seen ≡ old.seen → new.uses ≡ old.uses
+    → IsSince old recent → IsSince new recent
 since_same old new recent seen uses s = record { seen = seen ∙ s.seen; uses = uses ∙ s.uses }
 
 -- Adding touches ---------------------------------------------------------------------------------------------------
 
-pub take_more : (c : Command) (i : ℕ) (t : Touch) → slice_get (touches c) i ≡ Some t → take (i + 1) (seen_by c) ≡ take i (seen_by c) ++ at c t ∷ []
+pub take_more : (c : Command) (i : ℕ) (t : Touch) → slice_get (touches c) i ≡ Some t
+    → take (i + 1) (seen_by c) ≡ take i (seen_by c) ++ at c t ∷ []
 take_more c i t e = rw add-one (go (touches c) i e)
   where
-    go : (ts : List Touch) (i : ℕ) → slice_get ts i ≡ Some t → take (suc i) (map (at c) ts) ≡ take i (map (at c) ts) ++ at c t ∷ []
+    go : (ts : List Touch) (i : ℕ) → slice_get ts i ≡ Some t
+        → take (suc i) (map (at c) ts) ≡ take i (map (at c) ts) ++ at c t ∷ []
     go [] i e = absurd (cc e)
     go (u ∷ ts) zero e = let same : u ≡ t = cc e in ap (λ t. at c t ∷ []) same
     go (u ∷ ts) (suc i) e = ap (λ l. at c u ∷ l) (go ts i e)

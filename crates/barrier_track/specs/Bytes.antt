@@ -1,6 +1,7 @@
--- Sets of bytes. A map has a place wherever bytes begin to be in the set or out of it, so that a byte is as the last place
--- at it or before it says.
-use Rattle.std.specs.Prelude.{◌≡◌, ℕ, zero, suc, ◌<◌, ◌≤◌, nat_le, nat_lt, Bool, true, false, cond, ◌&&◌, ◌||◌, List, [], Option, Some, None}
+-- Sets of bytes. A map has a place wherever bytes begin to be in the set or out of it, so that a byte is as the last
+-- place says that stands at it or before it.
+use Rattle.std.specs.Prelude.{◌≡◌, ℕ, zero, suc, ◌<◌, ◌≤◌, nat_le, nat_lt, Bool, true, false, cond, ◌&&◌, ◌||◌, List}
+use Rattle.std.specs.Prelude.{[], Option, Some, None}
 use Rattle.std.specs.Map.{lookup}
 use Rattle.std.specs.Ordering.{nat_cmp}
 use Rattle.std.specs.BTreeMap.{is_at}
@@ -65,7 +66,8 @@ IsLast rs at (Some r) = (r.0 ≤ at) × (start_of rs r.0 ≡ Some r.1) × ((a : 
 -- the first place from one to just before another
 abbrev pub IsFirst : Ranges → ℕ → ℕ → Option (ℕ × Bool) → Type 0
 IsFirst rs from to None = (a : ℕ) → from ≤ a → a < to → start_of rs a ≡ None
-IsFirst rs from to (Some r) = (from ≤ r.0) × (r.0 < to) × (start_of rs r.0 ≡ Some r.1) × ((a : ℕ) → from ≤ a → a < r.0 → start_of rs a ≡ None)
+IsFirst rs from to (Some r) =
+    (from ≤ r.0) × (r.0 < to) × (start_of rs r.0 ≡ Some r.1) × ((a : ℕ) → from ≤ a → a < r.0 → start_of rs a ≡ None)
 
 -- ---- steps
 

@@ -17,9 +17,6 @@ size_below sizes h (suc zero) lt = (three_sizes (slice_index sizes 0) (slice_ind
 size_below sizes h (suc (suc zero)) lt = (three_sizes (slice_index sizes 0) (slice_index sizes 1) (slice_index sizes 2) h).2
 size_below sizes h (suc (suc (suc c))) lt = absurd (omega arith)
 
-less_too : (x a b : ℕ) → x < a → a ≤ b → x < b
-less_too x a b h k = omega arith
-
 -- the ids of an invocation of a shader whose group is in its limits
 pub is_thread : (ids : Ids) (group : List ℕ) → is_group group ≡ true → ids.size ≡ group → IsBelow ids.thread ids.size → AllBelow 65535 ids.group → IsThread ids
 is_thread ids group h e below groups =
@@ -27,14 +24,14 @@ is_thread ids group h e below groups =
     record {
       size = size;
       thread = λ c lt. (let a = below c lt in let b = size c lt in omega arith);
-      group = λ c lt. less_too (slice_index ids.group c) 65535 65536 (groups c lt) (omega arith);
+      group = groups;
     }
 
 product_below : (a b m n : ℕ) → a ≤ m → b ≤ n → a * b ≤ m * n
 product_below a b m n h k = grind arith
 
 -- the place of a thread in its group, counted through all, is small
-pub place_below : (w h y z : ℕ) → w < 1025 → h < 1025 → y < 1025 → z < 1025 → w * (y + h * z) ≤ 1074790400
+pub place_below : (w h y z : ℕ) → w < 1025 → h < 1025 → y < 1024 → z < 1024 → w * (y + h * z) ≤ 1074790400
 place_below w h y z lw lh ly lz =
     let rows : h * z ≤ 1024 * 1024 = product_below h z 1024 1024 (omega arith) (omega arith) in
     product_below w (y + h * z) 1024 1049600 (omega arith) (omega arith)

@@ -215,7 +215,7 @@ impl Reader {
 
     /// The first rule of an instruction's operands that is broken.
     fn operands_fault(&self, row: &Row, item: &Item<'_>) -> Option<ShaderFault>
-        requires near { item.now.at + length (words_of item.now.more.now) ≤ 65535 }
+        requires near { item.now.at + length (words_of item.now.more.now) < MAX_SHADER_WORDS }
         requires fits { walks (table.kinds row.now.layout) (words_of item.now.more.now) ≡ true }
         ensures { result ≡ first_broken (rules_of (said self.now) row.now.access (parts_at (item.now.at + 1) (table.kinds row.now.layout) (words_of item.now.more.now))) }
     {
@@ -286,7 +286,7 @@ impl Reader {
 
     /// Takes an instruction whose first word is good but for its place.
     fn instruction(&mut self, alloc: Global, item: &Item<'_>) -> Result<(), ShaderEnd>
-        requires near { item.now.at + length (words_of item.now.more.now) ≤ 65535 }
+        requires near { item.now.at + length (words_of item.now.more.now) < MAX_SHADER_WORDS }
         requires no_declaration { items.is_declaration (item_of item.now) ≡ false }
         requires known { items.is_known (item_of item.now) ≡ true }
         requires whole { items.has_its_length (item_of item.now) ≡ true }
@@ -309,7 +309,7 @@ impl Reader {
 
     /// Takes one more item, or names its first fault.
     pub fn item(&mut self, alloc: Global, item: &Item<'_>) -> Result<(), ShaderEnd>
-        requires { item.now.at + length (words_of item.now.more.now) ≤ 65535 }
+        requires { item.now.at + length (words_of item.now.more.now) < MAX_SHADER_WORDS }
         ensures bad { IfBad result (λ f. item_fault (said self.old) (item_of item.now) ≡ Some f) }
         ensures good { OnOk result (item_fault (said self.old) (item_of item.now) ≡ None) }
         ensures says { OnOk result (said self.new ≡ and_said (item_of item.now) (said self.old)) }

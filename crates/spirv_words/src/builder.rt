@@ -3,6 +3,7 @@
 ghost use Rattle.std.specs.Prelude.{◌≡◌, ◌+◌, ◌^◌, ◌<◌, List, ℕ, [], ◌++◌, length, is_ok, if◌then◌else◌, IfOk, OnOk, Some, None};
 ghost use Rattle.spirv_model.specs.Words.{spelled, header};
 ghost use Rattle.spirv_model.specs.FirstBad.{first_bad};
+ghost use Rattle.spirv_model.specs.declared.limits.TheConstants.{MAX_INSTRUCTION_WORDS};
 ghost use Rattle.spirv_words.specs.Reading.{IfBad};
 
 use crate::end::ModuleEnd;
@@ -38,7 +39,7 @@ impl Builder {
     /// Adds an instruction; its first word has the number of its words and the opcode. Without memory nothing
     /// changes.
     pub fn push(&mut self, opcode: u16, operands: &[u32]) -> Result<(), AllocError>
-        requires { length operands.now < 65535 }
+        requires { length operands.now < MAX_INSTRUCTION_WORDS }
         ensures { self.new ≡ (if is_ok result then self.old ++ spelled opcode operands.now else self.old) }
     {
         let count = operands.len() as u32 + 1;

@@ -13,11 +13,14 @@ walk-preserved c =
       from = omega arith;
       to = omega (arith, first.1);
       forgets =
-          forgets_one c.args.starts.now.entries c.walk.starts.entries c.remove.new.self.entries c.args.from c.in-Some.start lo
-          (forgets_on c.args.starts.now.entries c.walk.starts.entries c.args.from c.walk.at c.in-Some.start c.walk.invariant.from first.0 c.walk.invariant.forgets first.3)
+          forgets_one c.args.starts.now.entries c.walk.starts.entries c.remove.new.self.entries c.args.from
+          c.in-Some.start lo
+          (forgets_on c.args.starts.now.entries c.walk.starts.entries c.args.from c.walk.at c.in-Some.start
+          c.walk.invariant.from first.0 c.walk.invariant.forgets first.3)
           c.remove.ensures.updates.0;
     }
 
 pub returns : goal.returns
 returns c =
-    forgets_on c.args.starts.now.entries c.walk.starts.entries c.args.from c.walk.at c.args.to c.walk.invariant.from c.walk.invariant.to c.walk.invariant.forgets c.in_default.ensures
+    forgets_on c.args.starts.now.entries c.walk.starts.entries c.args.from c.walk.at c.args.to c.walk.invariant.from
+    c.walk.invariant.to c.walk.invariant.forgets c.in_default.ensures

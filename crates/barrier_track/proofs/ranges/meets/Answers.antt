@@ -1,4 +1,4 @@
-use Rattle.std.proofs.Common.{◌≤◌, sym, ap, ◌∙◌, arith}
+use Rattle.std.proofs.Common.{sym, ◌∙◌, arith}
 use Rattle.barrier_track.proofs.Bytes.{byte_start, none_begun, none_on, none_one}
 use Rattle.barrier_track.proofs.ranges.meets.Goals as goal
 
@@ -17,7 +17,9 @@ walk-preserved c =
     record {
       from = omega (arith, first.0, c.walk.invariant.from);
       to = omega (arith, first.1);
-      none = none_one rs c.args.from start (none_on rs c.args.from c.walk.at start c.walk.invariant.from c.walk.invariant.none first.3)
+      none =
+          none_one rs c.args.from start
+          (none_on rs c.args.from c.walk.at start c.walk.invariant.from c.walk.invariant.none first.3)
           (byte_start rs start c.in-Some.has first.2 ∙ c.if-has.false);
     }
 
@@ -28,4 +30,6 @@ returns-then-has c =
     (start, omega (arith, first.0, c.walk.invariant.from), first.1, byte_start c.args.starts.now.entries start c.in-Some.has first.2 ∙ c.if-has.true)
 
 pub returns : goal.returns
-returns c = none_on c.args.starts.now.entries c.args.from c.walk.at c.args.to c.walk.invariant.from c.walk.invariant.none c.in_default.ensures
+returns c =
+    none_on c.args.starts.now.entries c.args.from c.walk.at c.args.to c.walk.invariant.from c.walk.invariant.none
+    c.in_default.ensures

@@ -9,7 +9,9 @@ walk-preserved c =
     let within : c.walk.at < length c.args.seen.now = slice_get_within c.args.seen.now c.walk.at c.in-Some.s here in
     record {
       within = omega arith;
-      none = clash_more c.args.c.now c.args.seen.now c.args.from c.walk.at c.in-Some.s here (sym c.clashes.ensures ∙ c.if-clashes.false) c.walk.invariant.none;
+      none =
+          clash_more c.args.c.now c.args.seen.now c.args.from c.walk.at c.in-Some.s here
+          (sym c.clashes.ensures ∙ c.if-clashes.false) c.walk.invariant.none;
     }
 
 pub returns : goal.returns

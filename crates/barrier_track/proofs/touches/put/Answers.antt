@@ -4,17 +4,21 @@ use Rattle.barrier_track.proofs.Touched.{grows_from_adds, grows_from_keeps, adds
 use Rattle.barrier_track.proofs.touches.put.Goals as goal
 
 pub returns-in_err-add-clause-part_touched : goal.returns-in_err-add-clause-part_touched
-returns-in_err-add-clause-part_touched c = grows_from_keeps true c.args.touched.now c.args.t.now.range c.add.new.self c.in_err-add.ensures.same
+returns-in_err-add-clause-part_touched c =
+    grows_from_keeps true c.args.touched.now c.args.t.now.range c.add.new.self c.in_err-add.ensures.same
 
 pub returns-in_err-add-2-clause-part_touched : goal.returns-in_err-add-2-clause-part_touched
-returns-in_err-add-2-clause-part_touched c = grows_from_adds true c.args.touched.now c.args.t.now.range c.add.new.self c.in_ok-add.ensures.added
+returns-in_err-add-2-clause-part_touched c =
+    grows_from_adds true c.args.touched.now c.args.t.now.range c.add.new.self c.in_ok-add.ensures.added
 
 pub returns-in_err-add-2-clause-part_written : goal.returns-in_err-add-2-clause-part_written
 returns-in_err-add-2-clause-part_written c =
-    grows_from_keeps (has_write c.args.t.now.access) c.args.written.now c.args.t.now.range c.add-then-writes.new.self c.in_err-add-2.ensures.same
+    grows_from_keeps (has_write c.args.t.now.access) c.args.written.now c.args.t.now.range c.add-then-writes.new.self
+    c.in_err-add-2.ensures.same
 
 pub returns-in_ok-add-2-clause-part_touched : goal.returns-in_ok-add-2-clause-part_touched
-returns-in_ok-add-2-clause-part_touched c = grows_from_adds true c.args.touched.now c.args.t.now.range c.add.new.self c.in_ok-add.ensures.added
+returns-in_ok-add-2-clause-part_touched c =
+    grows_from_adds true c.args.touched.now c.args.t.now.range c.add.new.self c.in_ok-add.ensures.added
 
 pub returns-in_ok-add-2-clause-part_written : goal.returns-in_ok-add-2-clause-part_written
 returns-in_ok-add-2-clause-part_written c =
@@ -22,4 +26,5 @@ returns-in_ok-add-2-clause-part_written c =
     (adds_so (has_write c.args.t.now.access) c.args.written.now c.args.t.now.range c.add-then-writes.new.self (sym c.writes.ensures ∙ c.if-writes.true) c.in_ok-add-2.ensures.added)
 
 pub returns-else-writes-clause-part_touched : goal.returns-else-writes-clause-part_touched
-returns-else-writes-clause-part_touched c = grows_from_adds true c.args.touched.now c.args.t.now.range c.add.new.self c.in_ok-add.ensures.added
+returns-else-writes-clause-part_touched c =
+    grows_from_adds true c.args.touched.now c.args.t.now.range c.add.new.self c.in_ok-add.ensures.added

@@ -31,4 +31,5 @@ returns-in-Some-clause-same c = on_err_weaker c.add.result (λ same.
 pub returns-in-None-clause-same : goal.returns-in-None-clause-same
 returns-in-None-clause-same c =
     let before = ap (λ (m : BTreeMap ℕ Ranges). m.entries) c.get_mut.follows.holds-at-none ∙ c.self.view_is in
-    subst (λ (bs : Blocks). OnErr c.add_first.result (KeepsBytes bs c.add_first.new.self)) before c.add_first.ensures.same
+    subst (λ (bs : Blocks). OnErr c.add_first.result (KeepsBytes bs c.add_first.new.self)) before
+    c.add_first.ensures.same

@@ -5,4 +5,5 @@ use Rattle.barrier_track.proofs.touches.Touches.clear.Goals as goal
 
 pub invariant_of-self : goal.invariant_of-self
 invariant_of-self c =
-    bytes_none 0 c.clear.new.self.items c.clear-2.new.self c.clear-3.new.self c.clear.ensures.items refl c.clear-2.ensures c.clear-3.ensures (λ block at. no_bytes at)
+    bytes_none 0 c.clear.new.self.items c.clear-2.new.self c.clear-3.new.self c.clear.ensures.items refl
+    c.clear-2.ensures c.clear-3.ensures (λ block at. no_bytes at)

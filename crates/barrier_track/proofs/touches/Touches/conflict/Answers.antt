@@ -15,7 +15,8 @@ returns-else-some c =
       | then-meets w ↦ absurd (both_ways c.if-meets.some c.if-some.false (w.some-is ∙ w.if-meets.true))
       | else-meets w ↦
           none_of_both c.args.c.now i.seen.items i.settled
-          (no_clash i.seen.items i.settled i.touched i.written c.args.c.now c.self.invariant (c.meets.ensures w.if-meets.false))
+          (no_clash i.seen.items i.settled i.touched i.written c.args.c.now c.self.invariant
+          (c.meets.ensures w.if-meets.false))
           (subst (λ (l : List Seen). NoneClashes c.args.c.now l i.settled (length l)) w.deref.ensures.value (w.clashes_from-some.ensures (sym w.some-is ∙ c.if-some.false)))
     ] in
     sym none ∙ ap (λ (t : Touched). least_seen c.args.c.now t.seen) c.self.view_is

@@ -8,7 +8,8 @@ pub invariant_of-self : goal.invariant_of-self
 invariant_of-self c =
     let i = c.walk.self-inside in
     bytes_part i.seen.items i.settled c.in-Some.s i.touched i.written c.put.new.touched c.put.new.written
-    (ap (λ (l : List Seen). slice_get l i.settled) (sym c.deref.ensures.value) ∙ sym c.touch_at.ensures ∙ c.in-Some.is) c.walk.invariant.bytes c.put.ensures.part_touched c.put.ensures.part_written
+    (ap (λ (l : List Seen). slice_get l i.settled) (sym c.deref.ensures.value) ∙ sym c.touch_at.ensures ∙ c.in-Some.is)
+    c.walk.invariant.bytes c.put.ensures.part_touched c.put.ensures.part_written
 
 pub walk-smaller : goal.walk-smaller
 walk-smaller c =
@@ -24,5 +25,6 @@ walk-preserved c =
       seen = c.walk.invariant.seen;
       bytes =
           bytes_more i.seen.items i.settled c.in-Some.s i.touched i.written c.put.new.touched c.put.new.written
-          (ap (λ (l : List Seen). slice_get l i.settled) (sym c.deref.ensures.value) ∙ sym c.touch_at.ensures ∙ c.in-Some.is) c.walk.invariant.bytes c.in_ok-put.ensures.touched c.in_ok-put.ensures.written;
+          (ap (λ (l : List Seen). slice_get l i.settled) (sym c.deref.ensures.value) ∙ sym c.touch_at.ensures ∙ c.in-Some.is)
+          c.walk.invariant.bytes c.in_ok-put.ensures.touched c.in_ok-put.ensures.written;
     }
