@@ -27,16 +27,17 @@ pub struct Ended {
 }
 
 /// The queries that are begun, those that are ended and not answered, in order, and how many invocations each command ran that
-/// was counted: an answer adds up the commands between its marks alone.
+/// was counted, with their total: an answer adds up the commands between its marks alone.
 #[derive(Drop)]
 pub struct Queries {
     begun: Vec<Begun>,
     ended: VecDeque<Ended>,
     ran: BTreeMap<u64, u64>,
+    total: u64,
 }
 
 impl Model for Queries {
-    ghost use Rattle.std.specs.Prelude.{◌<◌, ◌^◌};
+    ghost use Rattle.std.specs.Prelude.{◌≡◌, ◌<◌, ◌^◌};
     ghost use Rattle.query_pool.specs.Asked.{Asked, invocations_of};
     ghost use Rattle.query_pool.specs.Rising.{RisesBy};
 
@@ -44,7 +45,7 @@ impl Model for Queries {
 
     ghost view = { λ q. record { begun = q.begun.items; ended = q.ended.items; counts = q.ran.entries } };
 
-    ghost invariant = { λ q. RisesBy (λ e. e.call) q.ended.items × (invocations_of q.ran.entries < 2 ^ 63) };
+    ghost invariant = { λ q. RisesBy (λ e. e.call) q.ended.items × (invocations_of q.ran.entries < 2 ^ 63) × (q.total ≡ invocations_of q.ran.entries) };
 }
 
 impl Queries {
@@ -56,7 +57,15 @@ impl Queries {
             begun: Vec::new(alloc),
             ended: VecDeque::new(alloc),
             ran: BTreeMap::new(alloc),
+            total: 0,
         }
+    }
+
+    /// How many invocations all commands ran that were counted.
+    pub fn total(&self) -> u64
+        ensures { result ≡ invocations_of self.now.counts }
+    {
+        self.total
     }
 
     /// Begins or ends a query. The marks of one query are a Begin and an End in turn, and the calls of Ends never
@@ -99,6 +108,7 @@ impl Queries {
     {
         let before = self.ran.get(&command).copied().unwrap_or(0);
         self.ran.insert(command, before + invocations)?;
+        self.total += invocations;
         Ok(())
     }
 

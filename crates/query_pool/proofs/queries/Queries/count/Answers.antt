@@ -21,7 +21,7 @@ invariant_of-self-2 c =
     let put : c.insert.new.self.entries ≡ counted_more es k n = c.in_ok-insert.ensures.entries ∙ ap (λ (m : ℕ). insert_entry nat_cmp es k (m + n)) is in
     let total = ap (λ (l : List (ℕ × ℕ)). invocations_of l) put ∙ all_more es k n c.insert.ensures.was_ordered in
     let same = ap (λ (a : Asked). invocations_of a.counts) c.self.view_is in
-    (c.self.invariant.0, omega (arith, total, same))
+    (c.self.invariant.0, omega (arith, total, same), omega (arith, total, c.self.invariant.2))
 
 pub returns-clause-between : goal.returns-clause-between
 returns-clause-between c =
