@@ -3,6 +3,9 @@ use Rattle.std.proofs.Common.{◌≡◌, ℕ, ◌<◌, Bool, List, length, Optio
 use Rattle.std.specs.Prelude.{IfSome}
 use Rattle.player.specs.declared.command.Command.{Command}
 use Rattle.player.specs.declared.command.Command.TheVariants as commands
+use Rattle.player.specs.declared.task.Task.{Task}
+use Rattle.player.specs.declared.task.Task.TheVariants.{Answer, Generate}
+use Rattle.player.specs.Generated.{IsGenerated}
 use Rattle.player.specs.declared.status.Status.{Status}
 use Rattle.player.specs.declared.status.Status.TheVariants.{Done, Usage, ReadFault, WriteFault, Unsupported, BadLog, TooLong, NoMemory, BadText, NotBuilt}
 use Rattle.call_log.specs.Grammar.{Frame}
@@ -11,7 +14,7 @@ use Rattle.log_text.proofs.Spelling.{no_bad_line}
 use Rattle.list_audit.proofs.OneReading.{no_bad_line as not_bad_audited}
 use Rattle.d3d_plan.specs.Ends.{Never, IsFirst, is_draw_record, is_unbuilt_record}
 use Rattle.core_machine.specs.Unplayed.{is_unplayed_record}
-use Rattle.player.specs.Outcome.{Answers, IsPlayedLog, IsRunOf, FirstDraw, FirstUnbuilt, RunRefuses, Refuses, WasLeft, Outcome, OutcomeOf, Accepted}
+use Rattle.player.specs.Outcome.{Answers, IsPlayedLog, IsRunOf, FirstDraw, FirstUnbuilt, RunRefuses, Refuses, WasLeft, Outcome, OutcomeOf, Accepted, IsGood}
 
 told_is : (left : Option (List ℕ)) (all bytes : List ℕ) → left ≡ Some all → WasLeft left bytes → bytes ≡ all
 told_is left all bytes e h = subst (λ (o : Option (List ℕ)). WasLeft o bytes) e h
@@ -69,6 +72,16 @@ ends c (Unsupported n) left old new acc h a b = absurd (not_refused c left (Unsu
 ends c (BadText line) left old new acc h a b = absurd (not_refused c left (BadText line) h.0 acc h.1 h.2.refuses)
 ends c (NotBuilt n kind) left old new acc h a b = absurd (not_refused c left (NotBuilt n kind) h.0 acc h.1 h.2.refuses)
 
+generated_ends : (n : ℕ) (s : Status) (old new : Option (List ℕ)) → IsGenerated n old s new → (s ≡ WriteFault → ⊥) → (s ≡ Done) ⊎ (s ≡ NoMemory)
+generated_ends n Done old new h b = inl refl
+generated_ends n NoMemory old new h b = inr refl
+generated_ends n WriteFault old new h b = absurd (b refl)
+generated_ends n _ old new h b = absurd h
+
+task_ends : (t : Task) (s : Status) (left old new : Option (List ℕ)) → IsGood t left → OutcomeOf (Some t) left old s new → (s ≡ ReadFault → ⊥) → (s ≡ WriteFault → ⊥) → (s ≡ Done) ⊎ (s ≡ NoMemory)
+task_ends (Answer c) s left old new good h a b = ends c s left old new good h a b
+task_ends (Generate n) s left old new good h a b = generated_ends n s old new h b
+
 -- the same, by the words
-pub words_end : (o : Option Command) (c : Command) (s : Status) (left old new : Option (List ℕ)) → o ≡ Some c → Accepted c left → OutcomeOf o left old s new → (s ≡ ReadFault → ⊥) → (s ≡ WriteFault → ⊥) → (s ≡ Done) ⊎ (s ≡ NoMemory)
-words_end o c s left old new e acc h a b = ends c s left old new acc (subst (λ (x : Option Command). OutcomeOf x left old s new) e h) a b
+pub words_end : (o : Option Task) (t : Task) (s : Status) (left old new : Option (List ℕ)) → o ≡ Some t → IsGood t left → OutcomeOf o left old s new → (s ≡ ReadFault → ⊥) → (s ≡ WriteFault → ⊥) → (s ≡ Done) ⊎ (s ≡ NoMemory)
+words_end o t s left old new e good h a b = task_ends t s left old new good (subst (λ (x : Option Task). OutcomeOf x left old s new) e h) a b

@@ -1,9 +1,12 @@
 -- What each status says of the input and the output.
-use Rattle.std.specs.Prelude.{◌≡◌, ℕ, ◌<◌, ◌≤◌, Bool, List, [], length, Option, Some, None, IfSome, ◌⊎◌}
+use Rattle.std.specs.Prelude.{◌≡◌, ℕ, ◌<◌, ◌≤◌, Bool, List, [], length, Option, Some, None, IfSome, ◌⊎◌, ⊤}
 use Rattle.std.specs.Option.{option_map}
 use Rattle.dx_io.specs.Told.{Appends, AppendsFront}
 use Rattle.player.specs.declared.command.Command.{Command}
 use Rattle.player.specs.declared.command.Command.TheVariants as commands
+use Rattle.player.specs.declared.task.Task.{Task}
+use Rattle.player.specs.declared.task.Task.TheVariants.{Answer, Generate}
+use Rattle.player.specs.Generated.{IsGenerated}
 use Rattle.player.specs.declared.status.Status.{Status}
 use Rattle.player.specs.declared.status.Status.TheVariants.{Done, Usage, ReadFault, WriteFault, Unsupported, BadLog, TooLong, NoMemory, BadText, NotBuilt}
 use Rattle.player.specs.declared.run.Unsaid.{Unsaid}
@@ -134,10 +137,11 @@ Outcome c left old (BadLog fault) new = OfInput left (λ bytes. Declines c bytes
 Outcome c left old (BadText line) new = OfInput left (λ bytes. Declines c bytes (BadText line) old new)
 Outcome c left old (NotBuilt n kind) new = OfInput left (λ bytes. Declines c bytes (NotBuilt n kind) old new)
 
--- The outcome of some words: words that are no command are `Usage` and nothing else.
-abbrev pub OutcomeOf : Option Command → Option (List ℕ) → Option (List ℕ) → Status → Option (List ℕ) → Type 0
+-- The outcome of some words: words that are no task are `Usage` and nothing else.
+abbrev pub OutcomeOf : Option Task → Option (List ℕ) → Option (List ℕ) → Status → Option (List ℕ) → Type 0
 OutcomeOf None left old s new = (s ≡ Usage) × Silent old new
-OutcomeOf (Some c) left old s new = Outcome c left old s new
+OutcomeOf (Some (Answer c)) left old s new = Outcome c left old s new
+OutcomeOf (Some (Generate n)) left old s new = IsGenerated n old s new
 
 -- an input of at most 67,108,864 bytes for which a command has an output
 pub record Accepted (c : Command) (left : Option (List ℕ)) : Type 0 where
@@ -146,6 +150,11 @@ pub record Accepted (c : Command) (left : Option (List ℕ)) : Type 0 where
   pub short : length bytes ≤ MAX_INPUT
   pub out : List ℕ
   pub answers : Answers c bytes out
+
+-- an input for which a task has an output, where it asks for one
+abbrev pub IsGood : Task → Option (List ℕ) → Type 0
+IsGood (Answer c) left = Accepted c left
+IsGood (Generate n) left = ⊤
 
 -- ---- parts of a run
 

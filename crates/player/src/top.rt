@@ -1,15 +1,17 @@
-ghost use Rattle.std.specs.Prelude.{◌≡◌, ◌≤◌, ◌⊎◌, ℕ, List, length, Some};
+ghost use Rattle.std.specs.Prelude.{◌≡◌, ◌≤◌, ◌⊎◌, ℕ, List, false, length, Some};
 ghost use Rattle.dx_io.specs.Faults.{Rose, IsSteady};
 ghost use Rattle.call_log.specs.Grammar.{IsLog};
 ghost use Rattle.d3d_plan.specs.Ends.{EndsAt};
-ghost use Rattle.player.specs.declared.command.Command as command;
-ghost use Rattle.player.specs.Words.{command_of};
-ghost use Rattle.player.specs.Outcome.{OutcomeOf, Outcome, CameOf, Accepted, IsNotBuilt, UnplannedStatus, Writes};
+ghost use Rattle.player.specs.declared.task.Task as tasks;
+ghost use Rattle.player.specs.Tasks.{InRange, task_of, reads_input};
+ghost use Rattle.player.specs.Outcome.{OutcomeOf, Outcome, CameOf, IsGood, IsNotBuilt, UnplannedStatus, Writes};
 
 use crate::audit::audit_bytes;
-use crate::command::{Command, command_of};
+use crate::command::Command;
+use crate::generate::generate;
 use crate::run::{play, say_all};
 use crate::status::Status;
+use crate::task::{Task, task_of};
 use call_log::{Log, LogEnd, read_log};
 use core_machine::first_unbuilt;
 use d3d_plan::{PlanEnd, make_plan};
@@ -24,21 +26,24 @@ use std::alloc::Global;
 /// reads a log from the source to its end, plays it and writes the line of each reply as it comes; `ref` writes the same
 /// lines by a plain machine that takes one call after the other; `list` writes the text of a log, and `asm` the log of a text;
 /// `audit` reads the text of a listing, and writes whether it covers its hazards and allows the order behind it. The input is
-/// at most 67,108,864 bytes.
+/// at most 67,108,864 bytes. `gen` reads none: it plays a generated log on that machine, and writes one line on it.
 pub fn replay<S: Source, K: Sink>(
     alloc: Global,
     words: &[String],
     log: &mut S,
     out: &mut K,
 ) -> Status
-    ensures outcome { OutcomeOf (command_of words.now) (S.left log.old) (K.held out.old) result (K.held out.new) }
+    ensures outcome { OutcomeOf (task_of words.now) (S.left log.old) (K.held out.old) result (K.held out.new) }
     ensures read_fault { result ≡ Status.ReadFault → Rose (S.faults log.old) (S.faults log.new) }
     ensures write_fault { result ≡ Status.WriteFault → Rose (K.faults out.old) (K.faults out.new) }
     ensures read_later { S.faults log.old ≤ S.faults log.new }
     ensures write_later { K.faults out.old ≤ K.faults out.new }
 
+    // `gen` reads nothing, nor do words that are no task.
+    ensures unread { reads_input (task_of words.now) ≡ false → log.new ≡ log.old }
+
     // Each good input is answered.
-    ensures complete { (c : command.Command) → command_of words.now ≡ Some c → Accepted c (S.left log.old)
+    ensures complete { (t : tasks.Task) → task_of words.now ≡ Some t → IsGood t (S.left log.old)
         → IsSteady (S.faults log.old) (S.faults log.new) → IsSteady (K.faults out.old) (K.faults out.new)
         → (result ≡ Status.Done) ⊎ (result ≡ Status.NoMemory) }
 {
@@ -51,15 +56,31 @@ fn run_words<S: Source, K: Sink>(
     log: &mut S,
     out: &mut K,
 ) -> Status
-    ensures outcome { OutcomeOf (command_of words.now) (S.left log.old) (K.held out.old) result (K.held out.new) }
+    ensures outcome { OutcomeOf (task_of words.now) (S.left log.old) (K.held out.old) result (K.held out.new) }
     ensures read_fault { result ≡ Status.ReadFault → Rose (S.faults log.old) (S.faults log.new) }
     ensures write_fault { result ≡ Status.WriteFault → Rose (K.faults out.old) (K.faults out.new) }
     ensures read_later { S.faults log.old ≤ S.faults log.new }
     ensures write_later { K.faults out.old ≤ K.faults out.new }
+    ensures unread { reads_input (task_of words.now) ≡ false → log.new ≡ log.old }
 {
-    match command_of(words) {
+    match task_of(words) {
         None => Status::Usage,
-        Some(command) => run_command(alloc, command, log, out),
+        Some(task) => run_task(alloc, task, log, out),
+    }
+}
+
+fn run_task<S: Source, K: Sink>(alloc: Global, task: Task, log: &mut S, out: &mut K) -> Status
+    requires { InRange task }
+    ensures outcome { OutcomeOf (Some task) (S.left log.old) (K.held out.old) result (K.held out.new) }
+    ensures read_fault { result ≡ Status.ReadFault → Rose (S.faults log.old) (S.faults log.new) }
+    ensures write_fault { result ≡ Status.WriteFault → Rose (K.faults out.old) (K.faults out.new) }
+    ensures read_later { S.faults log.old ≤ S.faults log.new }
+    ensures write_later { K.faults out.old ≤ K.faults out.new }
+    ensures unread { reads_input (Some task) ≡ false → log.new ≡ log.old }
+{
+    match task {
+        Task::Answer(command) => run_command(alloc, command, log, out),
+        Task::Generate { rounds } => generate(alloc, rounds, out),
     }
 }
 
