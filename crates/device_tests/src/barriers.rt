@@ -75,6 +75,12 @@ const TRANSFERS_WRITE: Mask = Mask {
     ..NOTHING
 };
 
+const TRANSFERS_WRITE_SHADERS_READ: Mask = Mask {
+    compute: Some(Access::NONE),
+    transfer: Some(Access::WRITE),
+    ..NOTHING
+};
+
 const BOTH_WRITE: Mask = Mask {
     compute: Some(Access::WRITE),
     transfer: Some(Access::WRITE),
@@ -256,6 +262,37 @@ fn many_commands_without_barriers(rt: HostRuntime) -> Result<(), Fail> {
     let last = Task::Copy(Part(513, 39_595, 39_597), Part(514, 0, 2));
     let barrier = next(&mut tracker, alloc, 200_001, last)?;
     let wanted = Between(TRANSFERS_WRITE, 4_422, 200_001).barrier();
+    assert_eq!(rt; barrier, Some(wanted));
+    Ok(())
+}
+
+// The words that the copies read, and those between.
+const ALL_WORDS: Part = Part(512, 0, 800_000);
+
+const VIEW: Task = Task::Dispatch {
+    shader: 9,
+    groups: ONE_GROUP,
+    slots: &[(SlotName::Srv(0), ALL_WORDS)],
+};
+
+// Copies of every other word of a block, and then as many dispatches that view it whole. No barrier stands between them. The
+// words between were read by the first dispatch first, which a fill of one of them shows.
+#[test]
+fn many_reads_of_a_block_that_was_read(rt: HostRuntime) -> Result<(), Fail> {
+    let alloc = rt.alloc();
+    let mut tracker = Tracker::new(alloc);
+    for i in 0..100_000u64 {
+        let copy = Task::Copy(word(512, i.wrapping_mul(2)), word(513, i));
+        let barrier = next(&mut tracker, alloc, i.wrapping_add(1), copy)?;
+        assert_eq!(rt; barrier, None, "copy {i}");
+    }
+    for i in 100_000..200_000u64 {
+        let barrier = next(&mut tracker, alloc, i.wrapping_add(1), VIEW)?;
+        assert_eq!(rt; barrier, None, "dispatch {i}");
+    }
+    let fill = Task::Fill(word(512, 33_333), 0);
+    let barrier = next(&mut tracker, alloc, 200_001, fill)?;
+    let wanted = Between(TRANSFERS_WRITE_SHADERS_READ, 100_001, 200_001).barrier();
     assert_eq!(rt; barrier, Some(wanted));
     Ok(())
 }

@@ -5,7 +5,7 @@ use Rattle.shader_model.specs.Invocation.{Slots}
 use Rattle.spirv_model.specs.Meaning.Values.{Word}
 use Rattle.spirv_model.specs.Meaning.Bindings.{words_at, is_writable, with_word}
 use Rattle.spirv_model.specs.Meaning.Memory.{Memory, with_result, exchanged}
-use Rattle.spirv_run.specs.declared.frame.Frame.{Frame}
+use Rattle.spirv_run.specs.Frames.{Frame}
 use Rattle.spirv_run.specs.Held.{memory_of}
 use Rattle.spirv_run.specs.Steps.{Reaches, left_in}
 

@@ -1,5 +1,5 @@
 -- The steps of a module's table do what its instructions do.
-use Rattle.std.proofs.Common.{◌≡◌, ℕ, zero, suc, ◌+◌, ◌*◌, ◌-◌, ◌<◌, ◌≤◌, Bool, true, false, if◌then◌else◌, ◌==◌, max, List, [], ◌∷◌, length, get_or, drop, vec_len, Option, Some, None, refl, sym, ap, ◌∙◌, subst, arith}
+use Rattle.std.proofs.Common.{◌≡◌, ℕ, zero, suc, ◌+◌, ◌*◌, ◌-◌, ◌<◌, ◌≤◌, Bool, true, false, if◌then◌else◌, ◌==◌, max, List, [], ◌∷◌, length, get_or, drop, Option, Some, None, refl, sym, ap, ◌∙◌, subst, arith}
 use Rattle.std.specs.Prelude.{slice_get, unwrap_or, IsSome}
 use Rattle.std.proofs.lemmas.List.{drop_all, drop-drop}
 use Rattle.shader_model.specs.declared.ids.Ids.{Ids}
@@ -7,6 +7,7 @@ use Rattle.shader_model.specs.Invocation.{Slots}
 use Rattle.spirv_model.specs.Op.{Op}
 use Rattle.spirv_model.specs.Op as op
 use Rattle.spirv_model.specs.declared.storage_classes.TheConstants as class
+use Rattle.spirv_model.specs.declared.limits.TheConstants.{STEPS_A_WORD}
 use Rattle.spirv_model.specs.Operands.{Verdict}
 use Rattle.spirv_model.specs.FirstBad.{reading}
 use Rattle.spirv_model.specs.Meaning.Values.{Value, Nothing, Word, Truth, At, ToVariable, ToBuffer, ToLengths, ToInput, of_one, of_two, selected, component, new_word, new_if_equal}
@@ -17,11 +18,11 @@ use Rattle.spirv_run.specs.declared.step.Step.{Step}
 use Rattle.spirv_run.specs.declared.step.Step.TheVariants as held
 use Rattle.spirv_run.specs.declared.step.Source.TheVariants as source
 use Rattle.spirv_run.specs.declared.value.Pointer.TheVariants as pointer
-use Rattle.spirv_run.specs.declared.frame.Frame.{Frame}
+use Rattle.spirv_run.specs.Frames.{Beginning, Frame, at_start}
 use Rattle.spirv_run.specs.Held.{memory_of}
 use Rattle.spirv_run.specs.Steps.{Reaches, result_in, left_in, variable_in, chosen_in, done, continued, end_of, end_of_all}
 use Rattle.spirv_run.specs.Decoding.{place_behind, behind, outer_by, outer, head_of, chain, begins_with_label, step_of, steps_from, steps_of, ops_of}
-use Rattle.spirv_run.specs.Tables.{ids_of, HasRoom, Leave}
+use Rattle.spirv_run.specs.Tables.{ids_of, IsBeginning, IsFor, Leave}
 
 -- ## Lists of instructions
 
@@ -195,8 +196,20 @@ round_stuck words ids k place m h =
     ap (λ z. runs ids all k z m) (ap (λ z. drop z all) same ∙ past_end all 0 all place refl h) ∙ runs_none ids all k m
 
 -- a frame whose tables keep their lengths still has room
-pub room_kept : (f g : Frame) (words : List ℕ) → vec_len g.results ≡ vec_len f.results → vec_len g.variables ≡ vec_len f.variables → HasRoom f words → HasRoom g words
-room_kept f g words a b h = record { results = a ∙ h.results; variables = b ∙ h.variables }
+-- a frame that begins as before is for the same module
+pub for_kept : (f g : Frame) (words : List ℕ) → g.begins ≡ f.begins → IsFor f words → IsFor g words
+for_kept f g words e h = subst (λ b. IsBeginning b words) (sym e) h
+
+-- a frame at the start of an invocation
+pub record IsBegun (words : List ℕ) (start : ℕ) (g : Frame) : Type 0 where
+  pub leave : Leave words start g
+  pub near : start ≤ STEPS_A_WORD
+  pub within : start ≤ STEPS_A_WORD * length words
+  pub room : IsFor g words
+
+pub begun_well : (words : List ℕ) (f g : Frame) (start : ℕ) → IsFor f words → start ≡ f.begins.start → g ≡ at_start f.begins → IsBegun words start g
+begun_well words f g start h es eg =
+    subst (λ s. IsBegun words s g) (sym es) (subst (λ x. IsBegun words f.begins.start x) (sym eg) (record { leave = h.leave; near = h.near; within = h.within; room = h }))
 
 below_all : (steps : List Step) (i : ℕ) (s : Step) → slice_get steps i ≡ Some s → end_of s ≤ end_of_all steps
 below_all [] i s h = absurd (cc)

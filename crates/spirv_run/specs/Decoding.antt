@@ -62,26 +62,34 @@ abbrev pub begins_with_label : List Op → Bool
 begins_with_label [] = false
 begins_with_label (o ∷ os) = is_label o
 
+-- the step of an instruction that writes to memory; that of another does nothing
+abbrev pub memory_step : Op → Step
+memory_step (op.Store p v) = step.Store p v
+memory_step (op.Atomic o t r p s w v) = step.Atomic o r p v
+memory_step (op.AtomicCompareExchange t r p s e u v c) = step.CompareExchange r p v c
+memory_step o = step.Nothing
+
+-- the step of an instruction that needs no other to be known
+abbrev pub plain_step : Op → Step
+plain_step (op.Constant t r v) = step.Give r (source.Constant v)
+plain_step (op.Load t r p) = step.Give r (source.Load p)
+plain_step (op.AccessChain t r b is) = chain r b is
+plain_step (op.CompositeExtract t r v i) = step.Give r (source.Component v i)
+plain_step (op.Unary o t r a) = step.Give r (source.Unary o a)
+plain_step (op.Binary o t r a b) = step.Give r (source.Binary o a b)
+plain_step (op.Select t r c a b) = step.Give r (source.Select c a b)
+plain_step o = memory_step o
+
 -- the step of an instruction, with the place behind it, and whether a label stands there
 abbrev pub step_of : (all : List Op) → Op → (label_next : Bool) → (next : ℕ) → Step
-step_of all (op.Constant t r v) l k = step.Give r (source.Constant v)
 step_of all (op.Variable t r c vs) l k = if c == class.FUNCTION then step.Variable r (head_of vs) else outer c r all
 step_of all (op.Function t r c f) l k = if l then step.Jump (k + 1) else step.Stuck
 step_of all op.FunctionEnd l k = step.Stuck
-step_of all (op.Load t r p) l k = step.Give r (source.Load p)
-step_of all (op.Store p v) l k = step.Store p v
-step_of all (op.AccessChain t r b is) l k = chain r b is
-step_of all (op.CompositeExtract t r v i) l k = step.Give r (source.Component v i)
-step_of all (op.Unary o t r a) l k = step.Give r (source.Unary o a)
-step_of all (op.Binary o t r a b) l k = step.Give r (source.Binary o a b)
-step_of all (op.Select t r c a b) l k = step.Give r (source.Select c a b)
-step_of all (op.Atomic o t r p s w v) l k = step.Atomic o r p v
-step_of all (op.AtomicCompareExchange t r p s e u v c) l k = step.CompareExchange r p v c
 step_of all (op.Label x) l k = step.Stuck
 step_of all (op.Branch x) l k = step.Jump (behind all x)
 step_of all (op.BranchConditional c a b) l k = step.Choose c (behind all a) (behind all b)
 step_of all op.Return l k = step.Return
-step_of all o l k = step.Nothing
+step_of all o l k = plain_step o
 
 -- the steps of instructions from a place on
 abbrev pub steps_from : (all : List Op) → (at : ℕ) → List Op → List Step

@@ -7,7 +7,7 @@ use Rattle.spirv_run.specs.declared.value.Pointer.{Pointer as Held}
 use Rattle.spirv_run.specs.declared.value.Pointer.TheVariants as pointer
 use Rattle.spirv_run.specs.declared.value.Value.{Value as HeldValue}
 use Rattle.spirv_run.specs.declared.value.Value.TheVariants as value
-use Rattle.spirv_run.specs.declared.frame.Frame.{Frame}
+use Rattle.spirv_run.specs.Frames.{Frame}
 
 abbrev pub pointer_of : Held → Pointer
 pointer_of (pointer.Variable x) = ToVariable x
@@ -30,4 +30,4 @@ abbrev pub table_of : List (Option HeldValue) → Table
 table_of xs = λ x. option_map shown (slice_index_or xs x None)
 
 abbrev pub memory_of : Frame → Slots → Memory
-memory_of f slots = record { results = table_of f.results.items; variables = table_of f.variables.items; slots = slots }
+memory_of f slots = record { results = table_of f.results; variables = table_of f.variables; slots = slots }

@@ -1,3 +1,5 @@
+pub mod Cells
+pub mod Frames
 pub mod Held
 pub mod Steps
 pub mod Decoding

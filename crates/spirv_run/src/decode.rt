@@ -10,7 +10,7 @@ ghost use Rattle.std.specs.BTreeMap.{get};
 ghost use Rattle.spirv_run.specs.declared.value.Pointer.TheVariants as pointer;
 ghost use Rattle.spirv_run.specs.declared.step.Step.TheVariants as step;
 ghost use Rattle.spirv_run.specs.Steps.{end_of_all};
-ghost use Rattle.spirv_run.specs.Decoding.{Knows, behind, outer, chain, head_of, outer_by, is_label, begins_with_label, step_of, steps_from};
+ghost use Rattle.spirv_run.specs.Decoding.{Knows, behind, outer, chain, head_of, outer_by, is_label, begins_with_label, memory_step, plain_step, step_of, steps_from};
 
 use crate::names::Names;
 use crate::step::{Source, Step, end_of};
@@ -170,44 +170,12 @@ fn give(id: u32, source: Source) -> Step
     Step::Give { id, source }
 }
 
-/// The step of an instruction, with the place behind it, and whether a label stands there.
-fn step_of(names: &Names, ops: &[Op<'_>], op: Op<'_>, label_next: bool, next: usize) -> Step
-    requires names { Knows names.now 0 (map shown ops.now) }
-    requires next { next + 1 < 2 ^ 64 }
-    ensures { result ≡ step_of (map shown ops.now) (shown op.entry) label_next next }
+/// The step of an instruction that writes to memory; that of another does nothing.
+fn memory_step(op: Op<'_>) -> Step
+    ensures { result ≡ memory_step (shown op.entry) }
 {
     match op {
-        Op::Constant { id, value, .. } => give(id, Source::Constant(value)),
-        Op::Variable {
-            id,
-            class,
-            first_value,
-            ..
-        } => variable(names, ops, class, id, first_value),
-        Op::Function { .. } => enter(label_next, next),
-        Op::Load { id, pointer, .. } => give(id, Source::Load(pointer)),
         Op::Store { pointer, value } => Step::Store { pointer, value },
-        Op::AccessChain {
-            id,
-            base,
-            indexes,
-            ..
-        } => chain(id, base, indexes),
-        Op::CompositeExtract {
-            id,
-            composite,
-            index,
-            ..
-        } => give(id, Source::Component { composite, index }),
-        Op::Unary { code, id, a, .. } => give(id, Source::Unary(code, a)),
-        Op::Binary { code, id, a, b, .. } => give(id, Source::Binary(code, a, b)),
-        Op::Select {
-            id,
-            condition,
-            a,
-            b,
-            ..
-        } => give(id, Source::Select { condition, a, b }),
         Op::Atomic {
             code,
             id,
@@ -232,6 +200,57 @@ fn step_of(names: &Names, ops: &[Op<'_>], op: Op<'_>, label_next: bool, next: us
             value,
             comparator,
         },
+        _ => Step::Nothing,
+    }
+}
+
+/// The step of an instruction that needs no other to be known.
+fn plain_step(op: Op<'_>) -> Step
+    ensures { result ≡ plain_step (shown op.entry) }
+{
+    match op {
+        Op::Constant { id, value, .. } => give(id, Source::Constant(value)),
+        Op::Load { id, pointer, .. } => give(id, Source::Load(pointer)),
+        Op::AccessChain {
+            id,
+            base,
+            indexes,
+            ..
+        } => chain(id, base, indexes),
+        Op::CompositeExtract {
+            id,
+            composite,
+            index,
+            ..
+        } => give(id, Source::Component { composite, index }),
+        Op::Unary { code, id, a, .. } => give(id, Source::Unary(code, a)),
+        Op::Binary { code, id, a, b, .. } => give(id, Source::Binary(code, a, b)),
+        Op::Select {
+            id,
+            condition,
+            a,
+            b,
+            ..
+        } => give(id, Source::Select { condition, a, b }),
+        _ => memory_step(op),
+    }
+}
+
+/// The step of an instruction, with the place behind it, and whether a label stands there.
+fn step_of(names: &Names, ops: &[Op<'_>], op: Op<'_>, label_next: bool, next: usize) -> Step
+    requires names { Knows names.now 0 (map shown ops.now) }
+    requires next { next + 1 < 2 ^ 64 }
+    ensures { result ≡ step_of (map shown ops.now) (shown op.entry) label_next next }
+{
+    match op {
+        Op::Variable {
+            id,
+            class,
+            first_value,
+            ..
+        } => variable(names, ops, class, id, first_value),
+        Op::Function { .. } => enter(label_next, next),
+        Op::FunctionEnd | Op::Label { .. } => Step::Stuck,
         Op::Branch { label } => Step::Jump {
             to: behind(names, ops, label),
         },
@@ -241,23 +260,7 @@ fn step_of(names: &Names, ops: &[Op<'_>], op: Op<'_>, label_next: bool, next: us
             no: behind(names, ops, no),
         },
         Op::Return => Step::Return,
-        Op::FunctionEnd | Op::Label { .. } => Step::Stuck,
-        Op::Capability { .. }
-        | Op::MemoryModel { .. }
-        | Op::EntryPoint { .. }
-        | Op::ExecutionMode { .. }
-        | Op::Decorate { .. }
-        | Op::MemberDecorate { .. }
-        | Op::TypeVoid { .. }
-        | Op::TypeBool { .. }
-        | Op::TypeInt { .. }
-        | Op::TypeVector { .. }
-        | Op::TypeRuntimeArray { .. }
-        | Op::TypeStruct { .. }
-        | Op::TypePointer { .. }
-        | Op::TypeFunction { .. }
-        | Op::LoopMerge { .. }
-        | Op::SelectionMerge { .. } => Step::Nothing,
+        _ => plain_step(op),
     }
 }
 

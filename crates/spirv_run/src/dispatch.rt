@@ -6,7 +6,7 @@ ghost use Rattle.shader_model.specs.Dispatch.{group_invocations, invocations, vo
 ghost use Rattle.shader_model.specs.PlacesLeft.{IsBelow};
 ghost use Rattle.spirv_model.specs.Meaning.ModuleDispatch.{IsDefined, group_of, run_all, module_dispatched};
 ghost use Rattle.spirv_model.specs.Meaning.ModuleMeaning.{module_meaning};
-ghost use Rattle.spirv_run.specs.Tables.{HasRoom};
+ghost use Rattle.spirv_run.specs.Tables.{IsFor};
 ghost use Rattle.spirv_run.specs.Threads.{IsAllowed};
 
 use crate::frame::Frame;
@@ -32,12 +32,12 @@ fn run_thread(
 )
     requires defined { IsDefined table.now }
     requires allowed { IsAllowed groups (group_of table.now) }
-    requires room { HasRoom frame.old table.now }
+    requires room { IsFor frame.old table.now }
     requires group { IsBelow group groups }
     requires thread { IsBelow thread (group_of table.now) }
     ensures words { Some slots.new.words ≡ module_meaning table.now (record { group = group; thread = thread; size = group_of table.now }) slots.old.words }
     ensures around { slots.new.around ≡ slots.old.around }
-    ensures room { HasRoom frame.new table.now }
+    ensures room { IsFor frame.new table.now }
 {
     slots.within_limit();
     has_three(group);
@@ -61,11 +61,11 @@ fn run_group(
 )
     requires defined { IsDefined table.now }
     requires allowed { IsAllowed groups (group_of table.now) }
-    requires room { HasRoom frame.old table.now }
+    requires room { IsFor frame.old table.now }
     requires group { IsBelow group groups }
     ensures words { Some slots.new.words ≡ run_all table.now (group_invocations (group_of table.now) group) slots.old.words }
     ensures around { slots.new.around ≡ slots.old.around }
-    ensures room { HasRoom frame.new table.now }
+    ensures room { IsFor frame.new table.now }
 {
     let mut threads = Places::below(table.group());
     'threads: while let Some(thread) = threads.next() {
@@ -77,10 +77,10 @@ fn run_group(
 fn run_all_groups(table: &Table<'_>, groups: [u32; 3], frame: &mut Frame, slots: &mut Slots<'_>)
     requires defined { IsDefined table.now }
     requires allowed { IsAllowed groups (group_of table.now) }
-    requires room { HasRoom frame.old table.now }
+    requires room { IsFor frame.old table.now }
     ensures words { Some slots.new.words ≡ run_all table.now (invocations groups (group_of table.now)) slots.old.words }
     ensures around { slots.new.around ≡ slots.old.around }
-    ensures room { HasRoom frame.new table.now }
+    ensures room { IsFor frame.new table.now }
 {
     let mut places = Places::below(groups);
     'groups: while let Some(group) = places.next() {
@@ -106,10 +106,10 @@ pub fn run_groups(
 ) -> u64
     requires defined { IsDefined table.now }
     requires allowed { IsAllowed groups (group_of table.now) }
-    requires room { HasRoom frame.old table.now }
+    requires room { IsFor frame.old table.now }
     ensures words { Some slots.new.words ≡ module_dispatched table.now groups slots.old.words }
     ensures around { slots.new.around ≡ slots.old.around }
-    ensures room { HasRoom frame.new table.now }
+    ensures room { IsFor frame.new table.now }
     ensures count { result ≡ volume groups * volume (group_of table.now) }
 {
     run_all_groups(table, groups, frame, slots);

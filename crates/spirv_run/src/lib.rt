@@ -3,6 +3,7 @@
 #![tactic(auto)]
 
 mod bindings;
+mod cells;
 mod decode;
 mod dispatch;
 mod frame;

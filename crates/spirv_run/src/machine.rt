@@ -22,13 +22,13 @@ pub struct Machine<'a> {
 
 impl<'a> Model for Machine<'a> {
     ghost use Rattle.std.specs.Prelude.{ℕ, List};
-    ghost use Rattle.spirv_run.specs.Tables.{HasRoom};
+    ghost use Rattle.spirv_run.specs.Tables.{IsFor};
 
     ghost Value = { List ℕ };
 
     ghost view = { λ m. m.table };
 
-    ghost invariant = { λ m. HasRoom m.frame m.table };
+    ghost invariant = { λ m. IsFor m.frame m.table };
 }
 
 impl<'a> Machine<'a> {
@@ -38,7 +38,7 @@ impl<'a> Machine<'a> {
         ensures { IfOk result (λ machine. machine ≡ from.now) }
     {
         let table = Table::new(alloc, from.words())?;
-        let frame = Frame::new(alloc, table.end())?;
+        let frame = table.frame(alloc)?;
         Ok(Machine { table, frame })
     }
 

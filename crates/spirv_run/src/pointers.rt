@@ -1,11 +1,10 @@
 // Access chains, loads, stores and atomic instructions.
 
-ghost use Rattle.std.specs.Prelude.{◌≡◌, ◌<◌, [], ◌∷◌, option_map, slice_index, vec_len, Some};
+ghost use Rattle.std.specs.Prelude.{◌≡◌, ◌<◌, [], ◌∷◌, option_map, slice_index, length, Some};
 ghost use Rattle.shader_model.specs.Invocation as invocation;
 ghost use Rattle.spirv_model.specs.Meaning.Values.{new_word, new_if_equal, At, ToVariable};
 ghost use Rattle.spirv_model.specs.Meaning.Bindings.{words_at};
 ghost use Rattle.spirv_model.specs.Meaning.Memory as model;
-ghost use Rattle.spirv_run.specs.declared.frame.Frame.{Frame};
 ghost use Rattle.spirv_run.specs.Held.{shown, pointer_of, memory_of};
 ghost use Rattle.spirv_run.specs.Steps.{reached, left_in};
 
@@ -104,8 +103,7 @@ impl Frame {
     /// A variable that there is takes another value.
     fn set_existing(&mut self, id: u32, value: Value, next: usize) -> Next
         ensures stored { (slots : invocation.Slots) → reached result (memory_of self.new slots) ≡ left_in (model.stored (Some (At (ToVariable id))) (Some (shown value)) (memory_of self.old slots)) next }
-        ensures results { vec_len self.new.results ≡ vec_len self.old.results }
-        ensures variables { vec_len self.new.variables ≡ vec_len self.old.variables }
+        ensures begins { self.new.begins ≡ self.old.begins }
     {
         match self.variable(id) {
             None => Next::Stuck,
@@ -126,8 +124,7 @@ impl Frame {
     ) -> Next
         ensures stored { reached result (memory_of self.new slots.new.words) ≡ left_in (model.stored (option_map shown pointer) (option_map shown value) (memory_of self.old slots.old.words)) next }
         ensures around { slots.new.around ≡ slots.old.around }
-        ensures results { vec_len self.new.results ≡ vec_len self.old.results }
-        ensures variables { vec_len self.new.variables ≡ vec_len self.old.variables }
+        ensures begins { self.new.begins ≡ self.old.begins }
     {
         match (pointer, value) {
             (Some(Value::At(Pointer::Word { binding, place })), Some(Value::Word(word))) => {
@@ -149,11 +146,10 @@ impl Frame {
         new: Option<u32>,
         next: usize,
     ) -> Next
-        requires { id < vec_len self.old.results }
+        requires { id < length self.old.begins.results }
         ensures changed { reached result (memory_of self.new slots.new.words) ≡ left_in (model.exchanged id place.0 place.1 (slice_index (words_at slots.old.words place.0) place.1) new (memory_of self.old slots.old.words)) next }
         ensures around { slots.new.around ≡ slots.old.around }
-        ensures results { vec_len self.new.results ≡ vec_len self.old.results }
-        ensures variables { vec_len self.new.variables ≡ vec_len self.old.variables }
+        ensures begins { self.new.begins ≡ self.old.begins }
     {
         let (binding, place) = place;
         let Some(new) = new else {
@@ -178,11 +174,10 @@ impl Frame {
         operand: Option<Value>,
         next: usize,
     ) -> Next
-        requires { id < vec_len self.old.results }
+        requires { id < length self.old.begins.results }
         ensures changed { reached result (memory_of self.new slots.new.words) ≡ left_in (model.changed id (option_map shown pointer) (new_word code (option_map shown operand)) (memory_of self.old slots.old.words)) next }
         ensures around { slots.new.around ≡ slots.old.around }
-        ensures results { vec_len self.new.results ≡ vec_len self.old.results }
-        ensures variables { vec_len self.new.variables ≡ vec_len self.old.variables }
+        ensures begins { self.new.begins ≡ self.old.begins }
     {
         match pointer {
             Some(Value::At(Pointer::Word { binding, place })) => {
@@ -203,11 +198,10 @@ impl Frame {
         operands: (Option<Value>, Option<Value>),
         next: usize,
     ) -> Next
-        requires { id < vec_len self.old.results }
+        requires { id < length self.old.begins.results }
         ensures changed { reached result (memory_of self.new slots.new.words) ≡ left_in (model.changed id (option_map shown pointer) (new_if_equal (option_map shown operands.0) (option_map shown operands.1)) (memory_of self.old slots.old.words)) next }
         ensures around { slots.new.around ≡ slots.old.around }
-        ensures results { vec_len self.new.results ≡ vec_len self.old.results }
-        ensures variables { vec_len self.new.variables ≡ vec_len self.old.variables }
+        ensures begins { self.new.begins ≡ self.old.begins }
     {
         match pointer {
             Some(Value::At(Pointer::Word { binding, place })) => {

@@ -1,12 +1,12 @@
 // One step, and one invocation from step to step.
 
-ghost use Rattle.std.specs.Prelude.{◌≡◌, ◌+◌, ◌≤◌, ℕ, drop, option_map, vec_len, if◌then◌else◌, Some, None};
+ghost use Rattle.std.specs.Prelude.{◌≡◌, ◌+◌, ◌≤◌, ℕ, drop, option_map, length, if◌then◌else◌, Some, None};
 ghost use Rattle.shader_model.specs.Invocation as model;
 ghost use Rattle.spirv_model.specs.Meaning.ModuleMeaning.{runs, reading_of, module_meaning};
 ghost use Rattle.spirv_run.specs.Held.{shown, memory_of};
 ghost use Rattle.spirv_run.specs.Steps.{sourced, done, reached, continued, chosen_in, first_of, end_of};
 ghost use Rattle.spirv_run.specs.Decoding.{ops_of};
-ghost use Rattle.spirv_run.specs.Tables.{HasRoom};
+ghost use Rattle.spirv_run.specs.Tables.{IsFor};
 
 use crate::frame::Frame;
 use crate::operations::{component, of_one, of_two, selected};
@@ -16,9 +16,7 @@ use crate::table::Table;
 use crate::thread::Thread;
 use crate::value::Value;
 use shader_slots::Slots;
-
-/// How many steps there may be for each word of the module.
-const STEPS: u32 = 8_192;
+use spirv_model::limits::STEPS_A_WORD;
 
 /// The place that a condition chooses.
 fn choose(condition: Option<Value>, yes: usize, no: usize) -> Next
@@ -73,12 +71,11 @@ impl Frame {
 
     /// One step, with the place behind it.
     fn act(&mut self, thread: &Thread, slots: &mut Slots<'_>, step: Step, next: usize) -> Next
-        requires results { end_of step ≤ vec_len self.old.results }
-        requires variables { end_of step ≤ vec_len self.old.variables }
+        requires results { end_of step ≤ length self.old.begins.results }
+        requires variables { end_of step ≤ length self.old.begins.variables }
         ensures outcome { reached result (memory_of self.new slots.new.words) ≡ done thread.now step next (memory_of self.old slots.old.words) }
         ensures around { slots.new.around ≡ slots.old.around }
-        ensures results { vec_len self.new.results ≡ vec_len self.old.results }
-        ensures variables { vec_len self.new.variables ≡ vec_len self.old.variables }
+        ensures begins { self.new.begins ≡ self.old.begins }
     {
         match step {
             Step::Nothing => Next::On(next),
@@ -133,10 +130,10 @@ fn run_round(
     frame: &mut Frame,
     slots: &mut Slots<'_>,
 ) -> Next
-    requires room { HasRoom frame.old table.now }
+    requires room { IsFor frame.old table.now }
     ensures outcome { (n : ℕ) → runs thread.now (ops_of table.now) (most + n) (drop start (ops_of table.now)) (memory_of frame.old slots.old.words) ≡ continued (ops_of table.now) (runs thread.now (ops_of table.now) n) (reached result (memory_of frame.new slots.new.words)) }
     ensures around { slots.new.around ≡ slots.old.around }
-    ensures room { HasRoom frame.new table.now }
+    ensures room { IsFor frame.new table.now }
 {
     let mut place = start;
     'steps: for _i in 0..most {
@@ -156,22 +153,22 @@ fn run_round(
 /// takes no memory.
 pub fn invoke(table: &Table<'_>, thread: &Thread, frame: &mut Frame, slots: &mut Slots<'_>) -> bool
     requires whole { (reading_of table.now).stop ≡ None }
-    requires room { HasRoom frame.old table.now }
+    requires room { IsFor frame.old table.now }
     ensures words { module_meaning table.now thread.now slots.old.words ≡ (if result then Some slots.new.words else None) }
     ensures around { slots.new.around ≡ slots.old.around }
-    ensures room { HasRoom frame.new table.now }
+    ensures room { IsFor frame.new table.now }
 {
-    let start = table.begin(frame);
+    let start = frame.begin();
     let rounds = table.word_count();
     let mut place = start as usize;
-    let mut most = STEPS - start;
+    let mut most = STEPS_A_WORD - start;
     'rounds: for _i in 0..rounds {
         match run_round(table, thread, place, most, frame, slots) {
             Next::On(next) => place = next,
             Next::Done => return true,
             Next::Stuck => return false,
         }
-        most = STEPS;
+        most = STEPS_A_WORD;
     }
     false
 }

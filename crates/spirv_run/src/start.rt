@@ -1,10 +1,12 @@
 // Where invocations start: behind the first steps whose results are the same in all of them.
 
-ghost use Rattle.std.specs.Prelude.{◌≡◌, ◌≤◌, ℕ, List, length, vec_len, option_map, true, false, OnSome, Some};
+ghost use Rattle.std.specs.Prelude.{◌≡◌, ◌≤◌, ℕ, List, length, option_map, true, false, OnSome, Some};
 ghost use Rattle.shader_model.specs.declared.ids.Ids.{Ids};
 ghost use Rattle.shader_model.specs.Invocation as model;
+ghost use Rattle.spirv_model.specs.declared.limits.TheConstants.{STEPS_A_WORD};
 ghost use Rattle.spirv_model.specs.Meaning.Memory.{Memory};
 ghost use Rattle.spirv_model.specs.Meaning.ModuleMeaning.{begun};
+ghost use Rattle.spirv_run.specs.Frames.{at_start};
 ghost use Rattle.spirv_run.specs.Held.{shown, memory_of};
 ghost use Rattle.spirv_run.specs.Steps.{Reaches, sourced, done, end_of, end_of_all};
 ghost use Rattle.spirv_run.specs.Decoding.{steps_of};
@@ -13,9 +15,7 @@ ghost use Rattle.spirv_run.specs.Tables.{Leave};
 use crate::frame::Frame;
 use crate::step::{Source, Step};
 use crate::value::Value;
-
-/// The most steps that an invocation starts behind: those of one word.
-const MOST: u32 = 8_192;
+use spirv_model::limits::STEPS_A_WORD;
 
 /// The value of a result that is the same in each invocation.
 fn fixed(source: Source) -> Option<Value>
@@ -28,20 +28,21 @@ fn fixed(source: Source) -> Option<Value>
     }
 }
 
-/// Does a step that is the same in each invocation, if it is such a step.
-fn keep(step: Step, kept: &mut Frame) -> bool
-    requires { end_of step ≤ vec_len kept.old.results }
-    ensures done { result ≡ true → (ids : Ids) (slots : model.Slots) (next : ℕ) → done ids step next (memory_of kept.old slots) ≡ Reaches next (memory_of kept.new slots) }
-    ensures left { result ≡ false → kept.new ≡ kept.old }
-    ensures results { vec_len kept.new.results ≡ vec_len kept.old.results }
-    ensures variables { vec_len kept.new.variables ≡ vec_len kept.old.variables }
+/// Lets each invocation begin behind a step that is the same in all of them, if it is such a step.
+fn keep(step: Step, frame: &mut Frame) -> bool
+    requires { end_of step ≤ length frame.old.begins.results }
+    ensures done { result ≡ true → (ids : Ids) (slots : model.Slots) (next : ℕ)
+        → done ids step next (memory_of (at_start frame.old.begins) slots) ≡ Reaches next (memory_of (at_start frame.new.begins) slots) }
+    ensures left { result ≡ false → frame.new ≡ frame.old }
+    ensures results { length frame.new.begins.results ≡ length frame.old.begins.results }
+    ensures variables { frame.new.begins.variables ≡ frame.old.begins.variables }
 {
     match step {
         Step::Nothing => true,
         Step::Give { id, source } => match fixed(source) {
             None => false,
             Some(value) => {
-                kept.set_value(id, value);
+                frame.keep(id, value);
                 true
             }
         },
@@ -49,19 +50,20 @@ fn keep(step: Step, kept: &mut Frame) -> bool
     }
 }
 
-/// Does the first steps that are the same in each invocation, and answers how many they are.
-pub fn start_of(steps: &[Step], kept: &mut Frame) -> u32
-    requires room { end_of_all steps.now ≤ vec_len kept.old.results }
-    requires begun { (slots : model.Slots) → memory_of kept.old slots ≡ begun slots }
-    ensures leave { (words : List ℕ) → steps.now ≡ steps_of words → Leave words result kept.new }
-    ensures near { result ≤ 8192 }
+/// Lets each invocation begin behind the first steps that are the same in all of them, no more than may be run for one
+/// word, and answers how many they are.
+pub fn start_of(steps: &[Step], frame: &mut Frame) -> u32
+    requires room { end_of_all steps.now ≤ length frame.old.begins.results }
+    requires begun { (slots : model.Slots) → memory_of (at_start frame.old.begins) slots ≡ begun slots }
+    ensures leave { (words : List ℕ) → steps.now ≡ steps_of words → Leave words result (at_start frame.new.begins) }
+    ensures near { result ≤ STEPS_A_WORD }
     ensures within { result ≤ length steps.now }
-    ensures results { vec_len kept.new.results ≡ vec_len kept.old.results }
-    ensures variables { vec_len kept.new.variables ≡ vec_len kept.old.variables }
+    ensures results { length frame.new.begins.results ≡ length frame.old.begins.results }
+    ensures variables { frame.new.begins.variables ≡ frame.old.begins.variables }
 {
-    let most = steps.len().min(MOST as usize) as u32;
+    let most = steps.len().min(STEPS_A_WORD as usize) as u32;
     'steps: for at in 0..most {
-        if !keep(steps[at as usize], kept) {
+        if !keep(steps[at as usize], frame) {
             return at;
         }
     }

@@ -1,9 +1,9 @@
-// The table of a module: its steps, its group, and where its invocations start.
+// The table of a module: its steps and its group.
 
 ghost use Rattle.std.specs.Prelude.{◌≡◌, ◌+◌, ◌*◌, ◌<◌, ◌≤◌, ◌^◌, IfOk, OnSome, length, slice_get};
 ghost use Rattle.spirv_model.specs.Meaning.ModuleDispatch.{group_of};
 ghost use Rattle.spirv_run.specs.Decoding.{steps_of};
-ghost use Rattle.spirv_run.specs.Tables.{ids_of, HasRoom, Leave};
+ghost use Rattle.spirv_run.specs.Tables.{IsFor};
 
 use crate::decode::{behind_header, end_of_ids, instructions, local_size, steps};
 use crate::frame::Frame;
@@ -13,15 +13,12 @@ use crate::step::Step;
 use std::alloc::{AllocError, Global};
 use std::marker::Model;
 
-/// A module with its table. Each invocation starts behind the first steps, whose results are kept. A clause sees the
-/// module's words.
+/// A module with its table. A clause sees the module's words.
 #[derive(Drop)]
 pub struct Table<'a> {
     words: &'a [u32],
     steps: Vec<Step>,
     group: [u32; 3],
-    start: u32,
-    kept: Frame,
 }
 
 impl<'a> Model for Table<'a> {
@@ -32,7 +29,7 @@ impl<'a> Model for Table<'a> {
 
     ghost view = { λ t. t.words.now };
 
-    ghost invariant = { λ t. IsTable t.words.now t.steps.items t.group t.start t.kept };
+    ghost invariant = { λ t. IsTable t.words.now t.steps.items t.group };
 }
 
 impl<'a> Table<'a> {
@@ -44,14 +41,10 @@ impl<'a> Table<'a> {
         let names = Names::of(alloc, &ops)?;
         let steps = steps(alloc, &names, &ops)?;
         let group = local_size(&ops);
-        let mut kept = Frame::new(alloc, end_of_ids(&steps))?;
-        let start = start_of(&steps, &mut kept);
         Ok(Table {
             words,
             steps,
             group,
-            start,
-            kept,
         })
     }
 
@@ -74,23 +67,14 @@ impl<'a> Table<'a> {
         self.group
     }
 
-    /// The number behind all ids that the steps make.
-    pub fn end(&self) -> usize
-        ensures { result ≡ ids_of self.now }
+    /// A frame for the module's invocations.
+    pub fn frame(&self, alloc: Global) -> Result<Frame, AllocError>
+        ensures { IfOk result (λ frame. IsFor frame self.now) }
     {
-        self.kept.results.len()
-    }
-
-    /// Puts a frame where each invocation starts, and answers the place of its first step.
-    pub fn begin(&self, frame: &mut Frame) -> u32
-        requires { HasRoom frame.old self.now }
-        ensures leave { Leave self.now result frame.new }
-        ensures near { result ≤ 8192 }
-        ensures within { result ≤ 8192 * length self.now }
-        ensures room { HasRoom frame.new self.now }
-    {
-        frame.begin(&self.kept);
-        self.start
+        let mut frame = Frame::new(alloc, end_of_ids(&self.steps))?;
+        let start = start_of(&self.steps, &mut frame);
+        frame.start_at(start);
+        Ok(frame)
     }
 
     /// How many words the module has.

@@ -2,7 +2,7 @@ use Rattle.std.proofs.Common.{◌≡◌, ◌+◌, ◌*◌, ◌-◌, ℕ, length,
 use Rattle.spirv_model.specs.Meaning.ModuleMeaning.{runs, begun}
 use Rattle.spirv_run.specs.Held.{memory_of}
 use Rattle.spirv_run.specs.Decoding.{ops_of}
-use Rattle.spirv_run.proofs.Stepping.{whole_meaning}
+use Rattle.spirv_run.proofs.Stepping.{whole_meaning, begun_well}
 use Rattle.spirv_run.proofs.run.invoke.Goals as goal
 
 pub rounds-init : goal.rounds-init
@@ -11,18 +11,19 @@ rounds-init c =
     let s = c.args.slots.now.words in
     let ids = c.args.thread.now in
     let start = c.begin-start.result in
-    let near = c.begin-start.ensures.near in
-    let within = c.begin-start.ensures.within in
+    let begun_is = begun_well w c.args.frame.now c.begin-start.new.self start c.requires.room c.begin-start.ensures.start c.begin-start.ensures.begun in
+    let near = begun_is.near in
+    let within = begun_is.within in
     record {
       outcome =
           let all : 8192 * length w ≡ start + (8192 * length w - start) = omega arith in
           let rest : 8192 * length w - start ≡ 8192 * (length w - 0) - (8192 - (8192 - start)) = omega arith in
           ap (λ k. runs ids (ops_of w) k (ops_of w) (begun s)) all
-          ∙ c.begin-start.ensures.leave ids s (8192 * length w - start)
-          ∙ ap (λ k. runs ids (ops_of w) k (drop start (ops_of w)) (memory_of c.begin-start.new.frame s)) rest;
+          ∙ begun_is.leave ids s (8192 * length w - start)
+          ∙ ap (λ k. runs ids (ops_of w) k (drop start (ops_of w)) (memory_of c.begin-start.new.self s)) rest;
       near = omega arith;
       around = refl;
-      room = c.begin-start.ensures.room;
+      room = begun_is.room;
     }
 
 pub rounds-preserved : goal.rounds-preserved

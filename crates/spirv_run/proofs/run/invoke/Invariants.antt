@@ -2,7 +2,7 @@ use Rattle.std.proofs.Common.{◌≡◌, ◌*◌, ◌-◌, ◌≤◌, length, dr
 use Rattle.spirv_model.specs.Meaning.ModuleMeaning.{runs, begun}
 use Rattle.spirv_run.specs.Held.{memory_of}
 use Rattle.spirv_run.specs.Decoding.{ops_of}
-use Rattle.spirv_run.specs.Tables.{HasRoom}
+use Rattle.spirv_run.specs.Tables.{IsFor}
 use Rattle.spirv_run.proofs.run.invoke.Given as goal
 
 abbrev pub invariant-rounds : goal.invariant-rounds
@@ -11,5 +11,5 @@ invariant-rounds l = record {
       ≡ runs l.thread (ops_of l.table) (8192 * (length l.table - l._i) - (8192 - l.most)) (drop l.place (ops_of l.table)) (memory_of l.frame l.slots.words);
   near : l.most ≤ 8192;
   around : l.slots.around ≡ l.initial.slots.around;
-  room : HasRoom l.frame l.table;
+  room : IsFor l.frame l.table;
 }

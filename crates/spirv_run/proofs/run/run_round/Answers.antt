@@ -3,7 +3,7 @@ use Rattle.spirv_model.specs.Meaning.ModuleMeaning.{runs}
 use Rattle.spirv_run.specs.Held.{memory_of}
 use Rattle.spirv_run.specs.Steps.{continued}
 use Rattle.spirv_run.specs.Decoding.{ops_of}
-use Rattle.spirv_run.proofs.Stepping.{round_step, round_stuck, room_kept, fits}
+use Rattle.spirv_run.proofs.Stepping.{round_step, round_stuck, for_kept, fits}
 use Rattle.spirv_run.proofs.run.run_round.Goals as goal
 
 pub act-requires-clause-results : goal.act-requires-clause-results
@@ -28,7 +28,7 @@ steps-preserved c = record {
       ∙ round_step c.args.table.now c.args.thread.now c.args.most c.steps._i n c.steps.place c.in-Some.step (memory_of c.steps.frame c.steps.slots.words) c.steps-test.true (sym c.in-Some.ensures.step)
       ∙ ap (continued (ops_of c.args.table.now) (runs c.args.thread.now (ops_of c.args.table.now) (c.args.most - (c.steps._i + 1) + n))) (sym c.in-On.ensures.outcome);
   around = c.in-On.ensures.around ∙ c.steps.invariant.around;
-  room = room_kept c.steps.frame c.act.new.self c.args.table.now c.in-On.ensures.results c.in-On.ensures.variables c.steps.invariant.room;
+  room = for_kept c.steps.frame c.act.new.self c.args.table.now c.in-On.ensures.begins c.steps.invariant.room;
 }
 
 pub returns-in-Done : goal.returns-in-Done
@@ -38,7 +38,7 @@ returns-in-Done c = record {
       ∙ round_step c.args.table.now c.args.thread.now c.args.most c.steps._i n c.steps.place c.in-Some.step (memory_of c.steps.frame c.steps.slots.words) c.steps-test.true (sym c.in-Some.ensures.step)
       ∙ ap (continued (ops_of c.args.table.now) (runs c.args.thread.now (ops_of c.args.table.now) (c.args.most - (c.steps._i + 1) + n))) (sym c.in-Done.ensures.outcome);
   around = c.in-Done.ensures.around ∙ c.steps.invariant.around;
-  room = room_kept c.steps.frame c.act.new.self c.args.table.now c.in-Done.ensures.results c.in-Done.ensures.variables c.steps.invariant.room;
+  room = for_kept c.steps.frame c.act.new.self c.args.table.now c.in-Done.ensures.begins c.steps.invariant.room;
 }
 
 pub returns-in-Stuck : goal.returns-in-Stuck
@@ -48,7 +48,7 @@ returns-in-Stuck c = record {
       ∙ round_step c.args.table.now c.args.thread.now c.args.most c.steps._i n c.steps.place c.in-Some.step (memory_of c.steps.frame c.steps.slots.words) c.steps-test.true (sym c.in-Some.ensures.step)
       ∙ ap (continued (ops_of c.args.table.now) (runs c.args.thread.now (ops_of c.args.table.now) (c.args.most - (c.steps._i + 1) + n))) (sym c.in-Stuck.ensures.outcome);
   around = c.in-Stuck.ensures.around ∙ c.steps.invariant.around;
-  room = room_kept c.steps.frame c.act.new.self c.args.table.now c.in-Stuck.ensures.results c.in-Stuck.ensures.variables c.steps.invariant.room;
+  room = for_kept c.steps.frame c.act.new.self c.args.table.now c.in-Stuck.ensures.begins c.steps.invariant.room;
 }
 
 pub returns-in-None-clause-outcome : goal.returns-in-None-clause-outcome
