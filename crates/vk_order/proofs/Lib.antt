@@ -5,5 +5,13 @@ pub mod Whole
 pub mod Acts
 pub mod Broken
 pub mod Rising
-mod Served
+pub mod Served
 mod Best
+pub mod Trees
+pub mod CutOrder
+pub mod Closing
+pub mod Noting
+pub mod Sweep
+pub mod Finishing
+pub mod Places
+pub mod Touching

@@ -68,7 +68,7 @@ get_taken [] (suc n) k l = refl
 get_taken (x ∷ xs) (suc n) zero l = refl
 get_taken (x ∷ xs) (suc n) (suc k) l = get_taken xs n k (omega (arith, l))
 
-get_between : (ops : List VkOp) (x z y : ℕ) → x < z → z < y → slice_get (between ops x y) (z - suc x) ≡ slice_get ops z
+pub get_between : (ops : List VkOp) (x z y : ℕ) → x < z → z < y → slice_get (between ops x y) (z - suc x) ≡ slice_get ops z
 get_between ops x z y l k =
     get_taken (drop (suc x) ops) (y - suc x) (z - suc x) (omega (arith, l, k)) ∙ get_dropped ops (suc x) (z - suc x)
     ∙ ap (slice_get ops) (let e : suc x + (z - suc x) ≡ z = omega (arith, l) in e)

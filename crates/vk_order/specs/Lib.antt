@@ -1,3 +1,9 @@
 pub mod Asks
 pub mod Order
 pub mod Ends
+pub mod Classes
+pub mod Tree
+pub mod Cuts
+pub mod Finish
+pub mod Layers
+pub mod Index

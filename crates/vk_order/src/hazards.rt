@@ -77,7 +77,7 @@ fn pair_open(rest: &[VkOp], mid: &[VkOp], o: &VkOp, p: &VkOp) -> bool
     }
 }
 
-fn is_open(ops: &[VkOp], x: usize, y: usize) -> bool
+pub fn is_open(ops: &[VkOp], x: usize, y: usize) -> bool
     requires order { x < y }
     requires within { y < length ops.now }
     ensures { result ≡ uncovered ops.now x y }

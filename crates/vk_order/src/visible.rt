@@ -15,7 +15,7 @@ ghost use Rattle.vk_order.specs.Asks.{orders_visibly, is_available};
 use crate::ordered::{barrier_orders, names_stages_of};
 use vk_types::{Access, Barrier, Command, Mask, Stage, Touch, VkOp};
 
-fn writes_named(access: Option<Access>) -> bool
+pub fn writes_named(access: Option<Access>) -> bool
     ensures { result ≡ cover.writes_named access }
 {
     match access {
@@ -24,7 +24,7 @@ fn writes_named(access: Option<Access>) -> bool
     }
 }
 
-fn reads_named(access: Option<Access>) -> bool
+pub fn reads_named(access: Option<Access>) -> bool
     ensures { result ≡ cover.reads_named access }
 {
     match access {
@@ -33,7 +33,7 @@ fn reads_named(access: Option<Access>) -> bool
     }
 }
 
-fn allowed_by(access: Option<Access>, other: Access) -> bool
+pub fn allowed_by(access: Option<Access>, other: Access) -> bool
     ensures { result ≡ cover.allowed_by access other }
 {
     match access {

@@ -1,0 +1,166 @@
+//! The greatest of the numbers that were noted over reaches of places.
+
+ghost use Rattle.std.specs.Prelude.{◌≡◌, ℕ, ◌+◌, ◌-◌, ◌*◌, ◌/◌, ◌<◌, ◌≤◌, ◌^◌, ◌||◌, IfOk, length, true, false};
+ghost use Rattle.vk_order.specs.Tree.{AreAtMost, AreTops, Grew, HasMark, IsNode, IsTree, IsUnder, MarksGrew, NotedWithin, left_of, right_of};
+
+use std::alloc::{AllocError, Global};
+
+/// The places from one on to just before another.
+#[derive(Clone, Copy)]
+pub struct Reach {
+    pub from: usize,
+    pub to: usize,
+}
+
+/// A node of the tree, and the places below it.
+#[derive(Clone, Copy)]
+pub struct Part {
+    pub node: usize,
+    pub from: usize,
+    pub width: usize,
+}
+
+impl Part {
+    fn left(&self) -> Part
+        requires { 2 * self.now.node < 2 ^ 64 }
+        ensures { result ≡ left_of self.now }
+    {
+        Part {
+            node: 2 * self.node,
+            from: self.from,
+            width: self.width / 2,
+        }
+    }
+
+    fn right(&self) -> Part
+        requires node { 2 * self.now.node + 1 < 2 ^ 64 }
+        requires places { self.now.from + self.now.width < 2 ^ 64 }
+        ensures { result ≡ right_of self.now }
+    {
+        let half = self.width / 2;
+        Part {
+            node: 2 * self.node + 1,
+            from: self.from + half,
+            width: self.width - half,
+        }
+    }
+
+    // Whether none of its places is in the reach.
+    fn is_apart(&self, reach: Reach) -> bool
+        requires { self.now.from + self.now.width < 2 ^ 64 }
+        ensures { result ≡ true → (i : ℕ) → reach.from ≤ i → i < reach.to → self.now.from ≤ i → i < self.now.from + self.now.width → ⊥ }
+    {
+        reach.to <= self.from || self.from + self.width <= reach.from
+    }
+
+    // Whether all of them are.
+    fn is_within(&self, reach: Reach) -> bool
+        requires { self.now.from + self.now.width < 2 ^ 64 }
+    {
+        reach.from <= self.from && self.from + self.width <= reach.to
+    }
+}
+
+// Notes the number over the places of the part that are in the reach: at the uppermost nodes that have no others below them.
+fn raise_part(marks: &mut [u32], bests: &mut [u32], part: Part, reach: Reach, number: u32)
+    requires same { length bests.old ≡ length marks.old }
+    requires node { IsNode (length marks.old) part }
+    requires tops { AreTops marks.old bests.old }
+    requires under { IsUnder bests.old part.node number }
+    ensures marks { Grew marks.old marks.new }
+    ensures bests { Grew bests.old bests.new }
+    ensures tops { AreTops marks.new bests.new }
+    ensures noted { NotedWithin marks.new part reach number }
+{
+    if part.is_apart(reach) {
+        return;
+    }
+    bests[part.node] = bests[part.node].max(number);
+    if part.is_within(reach) || part.node >= marks.len() / 2 {
+        marks[part.node] = marks[part.node].max(number);
+        return;
+    }
+    raise_part(marks, bests, part.left(), reach, number);
+    raise_part(marks, bests, part.right(), reach, number);
+}
+
+// The greatest number that was noted at a place of the part that is in the reach, as far as the nodes from the part on say.
+fn greatest_in(marks: &[u32], bests: &[u32], part: Part, reach: Reach) -> u32
+    requires same { length bests.now ≡ length marks.now }
+    requires node { IsNode (length marks.now) part }
+    requires tops { AreTops marks.now bests.now }
+    ensures { AreAtMost marks.now part reach result }
+{
+    if part.is_apart(reach) {
+        return 0;
+    }
+    if part.is_within(reach) || part.node >= marks.len() / 2 {
+        return bests[part.node];
+    }
+    let left = greatest_in(marks, bests, part.left(), reach);
+    let right = greatest_in(marks, bests, part.right(), reach);
+    marks[part.node].max(left.max(right))
+}
+
+/// Numbers over places: each node has the greatest that was noted over all its places, and the greatest at any of them.
+#[derive(Drop)]
+pub struct MaxTree {
+    pub marks: Vec<u32>,
+    pub bests: Vec<u32>,
+    pub width: usize,
+}
+
+// As many nodes as the halves of so many places need, from node 1 on.
+fn node_count(width: usize) -> usize
+    ensures { 2 ≤ result }
+{
+    match width.checked_next_power_of_two() {
+        Some(leaves) => leaves.saturating_mul(2).max(2),
+        None => 2,
+    }
+}
+
+impl MaxTree {
+    /// Zeros over so many places.
+    pub fn new(alloc: Global, width: usize) -> Result<MaxTree, AllocError>
+        ensures tree { IfOk result (λ t. IsTree t) }
+        ensures width { IfOk result (λ t. t.width ≡ width) }
+    {
+        let count = node_count(width);
+        let marks = vec![in alloc; 0; count]?;
+        let bests = vec![in alloc; 0; count]?;
+        Ok(MaxTree {
+            marks,
+            bests,
+            width,
+        })
+    }
+
+    /// Notes a number over a reach.
+    pub fn raise(&mut self, reach: Reach, number: u32)
+        requires { IsTree self.old }
+        ensures tree { IsTree self.new }
+        ensures grew { MarksGrew self.old self.new }
+        ensures noted { (i : ℕ) → reach.from ≤ i → i < reach.to → i < self.old.width → HasMark self.new i number }
+    {
+        let root = Part {
+            node: 1,
+            from: 0,
+            width: self.width,
+        };
+        raise_part(&mut self.marks, &mut self.bests, root, reach, number);
+    }
+
+    /// The greatest number that was noted at a place of the reach.
+    pub fn greatest(&self, reach: Reach) -> u32
+        requires { IsTree self.now }
+        ensures { (i n : ℕ) → reach.from ≤ i → i < reach.to → i < self.now.width → HasMark self.now i n → n ≤ result }
+    {
+        let root = Part {
+            node: 1,
+            from: 0,
+            width: self.width,
+        };
+        greatest_in(&self.marks, &self.bests, root, reach)
+    }
+}
