@@ -7,9 +7,9 @@ use std::alloc::{AllocError, Global};
 use std::collections::BTreeMap;
 use std::marker::Model;
 
-/// Bytes of a block, as disjoint ranges: a place says whether the bytes from it to just before the next place are in the
-/// set, and the bytes before the first place are not. Between two places where bytes begin to be out of the set lies one
-/// where they begin to be in it.
+/// Bytes of a block, as disjoint ranges: a place says whether the bytes from it to just before the next place are in
+/// the set, and the bytes before the first place are not. Between two places where bytes begin to be out of the set
+/// lies one where they begin to be in it.
 #[derive(Drop)]
 pub struct Ranges {
     starts: BTreeMap<u64, bool>,
@@ -74,8 +74,8 @@ fn forget(starts: &mut BTreeMap<u64, bool>, from: u64, to: u64)
     }
 }
 
-/// Whether one of these bytes is in the set. Behind a place of bytes that are not comes one of bytes that are, so it looks
-/// at two places at most.
+/// Whether one of these bytes is in the set. Behind a place of bytes that are not comes one of bytes that are, so it
+/// looks at two places at most.
 fn meets(starts: &BTreeMap<u64, bool>, from: u64, to: u64) -> bool
     requires { from < to }
     ensures { Meets (byte_at starts.now.entries) from to result }

@@ -1,6 +1,7 @@
 //! What the commands since the last barrier touched.
 
-ghost use Rattle.std.specs.Prelude.{◌≡◌, ◌+◌, ◌-◌, ◌≤◌, ◌++◌, ◌∷◌, [], true, false, OnOk, None, length, slice_get, vec_len, vec_capacity};
+ghost use Rattle.std.specs.Prelude.{◌≡◌, ◌+◌, ◌≤◌, ◌++◌, [], true, false, OnOk, length, slice_get};
+ghost use Rattle.std.specs.Prelude.{vec_len, vec_capacity};
 ghost use Rattle.vk_types.specs.Hazards.{touches, has_write};
 ghost use Rattle.vk_types.specs.BarrierCauses as cause;
 ghost use Rattle.barrier_track.specs.Bytes.{AddsIf, Grows};
@@ -19,11 +20,12 @@ pub struct Seen {
     pub touch: Touch,
 }
 
-/// The touches of commands, in order. The bytes of the first of them lie in two sets, those that were touched and those that
-/// were written, so that a question costs a logarithm. The others aren't in the sets yet, since `add` takes no memory.
+/// The touches of commands, in order. The bytes of the first of them lie in two sets, those that were touched and those
+/// that were written, so that a question costs a logarithm. The others aren't in the sets yet, since `add` takes no
+/// memory.
 ///
-/// The sets tell whether some touch conflicts. Which command is the least of those is asked of the touches themselves, and
-/// then all of them are dropped.
+/// The sets tell whether some touch conflicts. Which command is the least of those is asked of the touches themselves,
+/// and then all of them are dropped.
 #[derive(Drop)]
 pub struct Touches {
     seen: Vec<Seen>,

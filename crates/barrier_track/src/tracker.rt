@@ -14,8 +14,8 @@ use vk_types::{Access, Barrier, Command, Mask};
 
 /// What the commands since the last barrier touched, and at which stages.
 ///
-/// A touch costs a logarithm of all that is kept, whether it is asked for or added, over all calls together. A barrier costs
-/// the touches that it drops, each of which is compared with its command's.
+/// A touch costs a logarithm of all that is kept, whether it is asked for or added, over all calls together. A barrier
+/// costs the touches that it drops, each of which is compared with its command's.
 #[derive(Drop)]
 pub struct Tracker {
     touches: Touches,

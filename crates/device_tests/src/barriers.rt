@@ -275,8 +275,8 @@ const VIEW: Task = Task::Dispatch {
     slots: &[(SlotName::Srv(0), ALL_WORDS)],
 };
 
-// Copies of every other word of a block, and then as many dispatches that view it whole. No barrier stands between them. The
-// words between were read by the first dispatch first, which a fill of one of them shows.
+// Copies of every other word of a block, and then as many dispatches that view it whole. No barrier stands between them.
+// The words between were read by the first dispatch first, which a fill of one of them shows.
 #[test]
 fn many_reads_of_a_block_that_was_read(rt: HostRuntime) -> Result<(), Fail> {
     let alloc = rt.alloc();

@@ -8,6 +8,8 @@ mod cases;
 #[cfg(test)]
 mod examples;
 #[cfg(test)]
+mod generated;
+#[cfg(test)]
 mod refusals;
 #[cfg(test)]
 mod replays;
