@@ -1,14 +1,17 @@
+pub mod OwnerBinding
 pub mod OwnerChanges
 pub mod OtherPartsKeepBlocks
 pub mod BoundRanges
 pub mod TakenBlocks
 pub mod StagedBytes
+pub mod BlocksBeside
 pub mod BuffersTakeBlocks
 pub mod ClassMoves
 pub mod ClassSteps
 pub mod ClassItems
 pub mod BlocksEnough
 pub mod BlockSorts
+pub mod MarkedPlaces
 pub mod MarkedBlocks
 pub mod HeldMarks
 pub mod HomeComing

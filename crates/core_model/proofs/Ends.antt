@@ -1,3 +1,4 @@
+pub mod DistanceParts
 pub mod Nearer
 pub mod Progress
 pub mod MarkedOnce

@@ -16,5 +16,15 @@ pub mod Copies
 pub mod BytesInTurn
 pub mod BatchesInTurn
 pub mod HeadLines
+pub mod LiveBlocks
 pub mod UsedBlocks
 pub mod HeldBlocks
+pub mod BatchMemory
+pub mod StagedRanges
+pub mod StandingItems
+pub mod StandingStages
+pub mod HeadStates
+pub mod StandingBatches
+pub mod ClearParts
+pub mod DeviceHolds
+pub mod HeadsSucceed

@@ -6,6 +6,7 @@ pub mod InOrderQueries
 pub mod QueryCalls
 pub mod QueryAnswers
 pub mod QueryMoves
+pub mod QueryParts
 pub mod QueryTurns
 pub mod CountsKept
 pub mod QueriesKept

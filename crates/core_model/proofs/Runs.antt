@@ -11,6 +11,7 @@ pub mod WorkedLogIsLawful
 pub mod WorkedQueryRun
 pub mod WorkedQueryIsLawful
 pub mod HostReading
+pub mod SaidReads
 pub mod ReadAnswers
 pub mod Chains
 pub mod HostAnswers

@@ -21,11 +21,13 @@ pub mod Restaging
 pub mod Padding
 pub mod Writing
 pub mod Overwriting
+pub mod VacantBlocks
 pub mod Giving
 pub mod Discarding
 pub mod Creating
 pub mod StagedPages
 pub mod Staging
+pub mod Staged
 pub mod OtherParts
 pub mod Start
 pub mod ReadingBack

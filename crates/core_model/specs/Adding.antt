@@ -1,5 +1,6 @@
 -- What an item adds to the open chunk and the listing.
-use Rattle.std.specs.Prelude.{ℕ, suc, ◌+◌, Bool, cond, not, max, ◌&&◌, ◌==◌, nat_le, List, [], ◌∷◌, ◌++◌, Option, Some, None}
+use Rattle.std.specs.Prelude.{ℕ, suc, ◌+◌, Bool, cond, not, max, ◌&&◌, ◌==◌, nat_le, List, [], ◌∷◌, ◌++◌, Option}
+use Rattle.std.specs.Prelude.{Some, None}
 use Rattle.std.specs.List.{list_any}
 use Rattle.dx_types.specs.declared.range.Range.{Range}
 use Rattle.dx_types.specs.Classes.{class_length}
@@ -13,7 +14,8 @@ use Rattle.vk_types.specs.BarrierCauses.{barrier_before, since_barrier, maybe_ba
 use Rattle.vk_types.specs.Entries.{Entry}
 use Rattle.core_model.specs.Script.{Turn, Script, updated}
 use Rattle.core_model.specs.Renaming.{BlockMap, block_of, range_on, cond_on}
-use Rattle.core_model.specs.CoreState.{Page, Owner, Unmade, Home, Returning, Spare, Live, Retired, Paged, Dropped, Pool, Said, Core, taken_count, open_number}
+use Rattle.core_model.specs.CoreState.{Page, Owner, Unmade, Home, Returning, Spare, Live, Retired, Paged, Dropped}
+use Rattle.core_model.specs.CoreState.{Pool, Said, Core, taken_count, open_number}
 use Rattle.core_model.specs.Owners.{nothing_bound, bind_owner, is_block}
 use Rattle.core_model.specs.Placing.{Staged}
 use Rattle.vk_types.specs.declared.command.Work.TheVariants as work
@@ -39,7 +41,10 @@ new_entry core a = record { act = a; chunk = open_number core; epoch = 0; fence 
 abbrev pub with_write : ℕ → Range → List ℕ → Core → Core
 with_write call r [] core = core
 with_write call r (b ∷ bs) core = record core {
-  open_chunk = record core.open_chunk { writes = core.open_chunk.writes ++ new_entry core (Host_write r (b ∷ bs)) ∷ [] };
+  open_chunk = record core.open_chunk {
+    writes = core.open_chunk.writes
+        ++ new_entry core (Host_write r (b ∷ bs)) ∷ [];
+  };
   listing = core.listing ++ op.HostWrite r call ∷ [];
   contents = core.contents ++ (b ∷ bs) ∷ [];
   host_acts = suc core.host_acts;
@@ -47,7 +52,12 @@ with_write call r (b ∷ bs) core = record core {
 
 -- a fence stands before the host write into a block that a chunk retired whose post was not taken
 abbrev pub fenced : ℕ → Core → Core
-fenced k core = cond (nat_le k (taken_count core)) core (record core { listing = core.listing ++ op.Fence k ∷ []; fence = max core.fence k })
+fenced k core =
+    cond (nat_le k (taken_count core)) core (record core {
+      listing = core.listing ++ op.Fence k ∷ [];
+      fence =
+          max core.fence k;
+    })
 
 -- the next command, and the barrier before it, if there is one
 abbrev pub new_command : Core → ℕ → Work → Option Cond → c.Command
@@ -60,7 +70,14 @@ epoch_after (Some b) epoch = suc epoch
 abbrev pub with_command : c.Command → Option Barrier → Core → Core
 with_command d barrier core = record core {
   open_chunk = record core.open_chunk {
-    commands = core.open_chunk.commands ++ record { act = Device d; chunk = open_number core; epoch = epoch_after barrier core.epoch; fence = 0; number = 0 } ∷ [];
+    commands = core.open_chunk.commands ++ record {
+      act = Device d;
+      chunk = open_number core;
+      epoch =
+          epoch_after barrier core.epoch;
+      fence = 0;
+      number = 0;
+    } ∷ [];
     ops = core.open_chunk.ops ++ (maybe_barrier barrier ++ op.Command d ∷ []);
   };
   epoch = epoch_after barrier core.epoch;
@@ -69,7 +86,8 @@ with_command d barrier core = record core {
 }
 
 abbrev pub plays_command : ℕ → Work → Option Cond → Core → Core
-plays_command call w skip core = with_command (new_command core call w skip) (barrier_before core.recent (new_command core call w skip)) core
+plays_command call w skip core = with_command (new_command core call w skip)
+    (barrier_before core.recent (new_command core call w skip)) core
 
 -- where an item's bytes stand
 abbrev pub with_placed : Placed → Core → Core
@@ -93,11 +111,17 @@ abbrev pub add_staging : Script → BlockMap → List Range → List Range → L
 add_staging script blocks [] staging = staging
 add_staging script blocks (r ∷ rs) staging =
     add_staging script blocks rs
-    (cond (script.is_staging r.block && not (has_block (block_of blocks r.block) staging)) (staging ++ range (block_of blocks r.block) 0 (script.size r.block) ∷ []) staging)
+    (cond (script.is_staging r.block && not (has_block (block_of blocks r.block) staging))
+    (staging ++ range (block_of blocks r.block) 0 (script.size r.block) ∷ []) staging)
 
 abbrev pub with_staging : Script → List Range → Core → Core
 with_staging script bound core =
-    record core { open_chunk = record core.open_chunk { staging = add_staging script core.blocks bound core.open_chunk.staging } }
+    record core {
+      open_chunk = record core.open_chunk {
+        staging =
+            add_staging script core.blocks bound core.open_chunk.staging;
+      };
+    }
 
 abbrev pub without_block : Option ℕ → List Range → List Range
 without_block block [] = []
@@ -128,7 +152,8 @@ staged_range s len = range s.block s.at (s.at + len)
 -- the command of a staging item, if it has one
 abbrev pub staged_command : ℕ → Range → Option Range → Option Cond → Core → Core
 staged_command call source None skip core = core
-staged_command call source (Some target) skip core = plays_command call (work.Copy source (range_on core.blocks target)) (cond_on core.blocks skip) core
+staged_command call source (Some target) skip core = plays_command call
+    (work.Copy source (range_on core.blocks target)) (cond_on core.blocks skip) core
 
 -- the length of the block of a buffer: its class's, or its own where it has none
 abbrev pub length_by : Script → ℕ → Option ℕ → ℕ

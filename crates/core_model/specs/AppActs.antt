@@ -1,5 +1,6 @@
 -- The next act of App: an answer, an item, a hand-over, the end.
-use Rattle.std.specs.Prelude.{◌≡◌, ℕ, suc, ◌-◌, ◌≤◌, Bool, true, false, nat_le, List, [], ◌∷◌, ◌++◌, map, Option, Some, None, ◌⊎◌}
+use Rattle.std.specs.Prelude.{◌≡◌, ℕ, suc, ◌-◌, ◌≤◌, Bool, true, false, nat_le, List, [], ◌∷◌, ◌++◌, map, Option}
+use Rattle.std.specs.Prelude.{Some, None, ◌⊎◌}
 use Rattle.dx_types.specs.declared.range.Range.{Range}
 use Rattle.base_lemmas.specs.Lists.{numbers_from}
 use Rattle.vk_types.specs.Effects.{Act, Host_write, Device, Host_read}
@@ -8,7 +9,8 @@ use Rattle.vk_types.specs.Entries.{Entry}
 use Rattle.core_model.specs.Script.{Ask, Bytes, Count, Constant, Turn, Refused, Passed, Flushed, Asked, Item, Script}
 use Rattle.core_model.specs.Chunking.{is_due}
 use Rattle.core_model.specs.Renaming.{range_on}
-use Rattle.core_model.specs.CoreState.{of_messages, of_running, Bytes_said, Value_said, Still_said, Refused_said, End_said, Core, empty_segment, open_number, last_finished, done}
+use Rattle.core_model.specs.CoreState.{of_messages, of_running, Bytes_said, Value_said, Still_said, Refused_said}
+use Rattle.core_model.specs.CoreState.{End_said, Core, empty_segment, open_number, last_finished, done}
 use Rattle.core_model.specs.Readings.{Reading, may_hand_over}
 use Rattle.core_model.specs.Adding.{with_turn, with_reply, new_entry}
 use Rattle.core_model.specs.Playing.{Plays}
@@ -39,7 +41,8 @@ with_read call r (Some used) core = record core {
 
 abbrev pub answer : ℕ → Ask → Option ℕ → Core → Core
 answer call (Bytes source) used core =
-    with_reply (Bytes_said call (copied_bytes core (range_on core.blocks source))) (with_read call (range_on core.blocks source) used core)
+    with_reply (Bytes_said call (copied_bytes core (range_on core.blocks source)))
+    (with_read call (range_on core.blocks source) used core)
 answer call (Count query) used core = with_reply (Value_said call (core.values query)) core
 answer call (Constant value) used core = with_reply (Value_said call value) core
 
@@ -47,12 +50,14 @@ answer call (Constant value) used core = with_reply (Value_said call value) core
 abbrev pub Answers : ℕ → Ask → Option ℕ → Bool → Core → Core → Type 0
 Answers call ask used may_pend old new =
     ((is_finished used (done old) ≡ true) × (new ≡ answer call ask used old))
-    ⊎ ((is_finished used (done old) ≡ false) × (may_pend ≡ true) × (new ≡ with_reply (Still_said call (used_or_zero used) (done old)) old))
+    ⊎ ((is_finished used (done old) ≡ false) × (may_pend ≡ true)
+    × (new ≡ with_reply (Still_said call (used_or_zero used) (done old)) old))
 
 -- The next act of App -----------------------------------------------------------------------------------------------
 
 abbrev pub TakesTurn : Reading → Script → Turn → List Turn → Core → Core → Type 0
-TakesTurn reading script (Refused call) turns old new = new ≡ with_reply (Refused_said call) (with_turn (Refused call) turns old)
+TakesTurn reading script (Refused call) turns old new = new ≡ with_reply (Refused_said call)
+    (with_turn (Refused call) turns old)
 TakesTurn reading script (Passed call) turns old new = new ≡ with_turn (Passed call) turns old
 TakesTurn reading script (Flushed call) turns old new = new ≡ with_turn (Flushed call) turns old
 TakesTurn reading script (Asked call ask used may_pend) turns old new =
@@ -86,9 +91,13 @@ handed_over old = record old {
 abbrev pub Acts : Reading → Script → Core → Core → Type 0
 Acts reading script old new =
     (old.ended ≡ false)
-    × (((is_due script old.open_chunk.turns old.future ≡ true) × (may_hand_over reading old ≡ true) × (new ≡ handed_over old))
+    × (((is_due script old.open_chunk.turns old.future ≡ true) × (may_hand_over reading old ≡ true)
+    × (new ≡ handed_over old))
     ⊎ (((is_due script old.open_chunk.turns old.future ≡ false)
     × (turn : Turn) × (turns : List Turn) × (old.future ≡ turn ∷ turns) × TakesTurn reading script turn turns old new)
     ⊎ ((is_due script old.open_chunk.turns old.future ≡ false) × (old.future ≡ [])
-    × (last_finished (old.taken ++ (of_messages old.posts ++ (of_messages old.completions ++ (of_running old.accepted ++ (old.submissions ++ (old.batches ++ old.chunks)))))) ≤ done old)
+    × (last_finished
+    (old.taken ++
+    (of_messages old.posts ++ (of_messages old.completions
+    ++ (of_running old.accepted ++ (old.submissions ++ (old.batches ++ old.chunks)))))) ≤ done old)
     × (new ≡ with_reply End_said (record old { ended = true })))))

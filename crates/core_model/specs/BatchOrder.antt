@@ -14,18 +14,20 @@ use Rattle.core_model.specs.Batching.{Made, nothing_made, next_chunk, make_turns
 -- its own: a block may go from a staging buffer to another one
 abbrev pub barriers_by : (ℕ → ℕ → Bool) → List Command → List Command → List VkOp → List VkOp
 barriers_by staging recent batch [] = []
-barriers_by staging recent batch (op.HostWrite r call ∷ ops) = op.HostWrite r call ∷ barriers_by staging recent batch ops
+barriers_by staging recent batch (op.HostWrite r call ∷ ops) =
+    op.HostWrite r call ∷ barriers_by staging recent batch ops
 barriers_by staging recent batch (op.Pipeline shader ∷ ops) = op.Pipeline shader ∷ barriers_by staging recent batch ops
 barriers_by staging recent batch (op.Barrier barrier ∷ ops) = barriers_by staging recent batch ops
 barriers_by staging recent batch (op.Command c ∷ ops) =
-    maybe_barrier (barrier_before recent c) ++ op.Command c ∷ barriers_by staging (recent_after recent c) (batch ++ c ∷ []) ops
+    maybe_barrier (barrier_before recent c) ++ op.Command c ∷ barriers_by staging (recent_after recent c)
+    (batch ++ c ∷ []) ops
 barriers_by staging recent batch (op.Submit k ∷ ops) =
     host_barrier (least_writer (staging k) batch) ++ op.Submit k ∷ barriers_by staging recent [] ops
 barriers_by staging recent batch (op.Fence k ∷ ops) = op.Fence k ∷ barriers_by staging recent batch ops
 barriers_by staging recent batch (op.HostRead r call ∷ ops) = op.HostRead r call ∷ barriers_by staging recent batch ops
 
--- a listing of batches has the barriers that its hazards cause, to take all barriers out and to put in those that are needed
--- changes nothing; it numbers its submits and fences, and keeps each batch whole
+-- a listing of batches has the barriers that its hazards cause, to take all barriers out and to put in those that are
+-- needed changes nothing; it numbers its submits and fences, and keeps each batch whole
 pub record IsBatchListing (staging : ℕ → ℕ → Bool) (ops : List VkOp) : Type 0 where
   pub barriers : ops ≡ barriers_by staging [] [] ops
   pub numbers : IsNumbered 1 ops

@@ -13,8 +13,8 @@ is_of_batch (op.Submit k) = true
 is_of_batch (op.Fence k) = false
 is_of_batch (op.HostRead r call) = false
 
--- the batches that a listing has, where these operations of the first were listed already: each with its barriers, commands and
--- submit. What is behind the last submit is no batch yet
+-- the batches that a listing has, where these operations of the first were listed already: each with its barriers,
+-- commands and submit. What is behind the last submit is no batch yet
 abbrev pub batches_from : List VkOp → List VkOp → List (List VkOp)
 batches_from begun [] = []
 batches_from begun (op.HostWrite r call ∷ ops) = batches_from begun ops

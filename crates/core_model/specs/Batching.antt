@@ -12,7 +12,9 @@ use Rattle.vk_types.specs.declared.op.VkOp.{VkOp}
 use Rattle.vk_types.specs.declared.op.VkOp.TheVariants as op
 use Rattle.vk_types.specs.Memory.{range}
 use Rattle.vk_types.specs.BarrierCauses.{barrier_before, since_barrier, maybe_barrier, least_writer, host_barrier}
-use Rattle.core_model.specs.Script.{Play, Create, Discard, No_overwrite, Stage, Command, Destroy, Create_shader, Mark_query, Set_state, Turn, Refused, Passed, Flushed, Asked, Item, Script, updated}
+use Rattle.core_model.specs.Script.{Play, Create, Discard, No_overwrite, Stage, Command, Destroy, Create_shader}
+use Rattle.core_model.specs.Script.{Mark_query, Set_state, Turn, Refused, Passed, Flushed, Asked, Item, Script}
+use Rattle.core_model.specs.Script.{updated}
 use Rattle.core_model.specs.Chunking.{chunk_turns}
 use Rattle.core_model.specs.Renaming.{block_of, range_on, work_on, cond_on}
 use Rattle.core_model.specs.Adding.{add_staging, without_block}
@@ -35,7 +37,18 @@ pub record Made : Type 0 where
   pub queries : List QueryMark
 
 abbrev pub nothing_made : Made
-nothing_made = record { blocks = λ r. None; is_staging = λ b. false; commands = 0; recent = []; writes = []; ops = []; listed = []; staging = []; queries = [] }
+nothing_made = record {
+  blocks = λ r. None;
+  is_staging = λ b. false;
+  commands = 0;
+  recent = [];
+  writes = [];
+  ops =
+      [];
+  listed = [];
+  staging = [];
+  queries = [];
+}
 
 abbrev pub next_chunk : Made → Made
 next_chunk m = record m { writes = []; ops = []; listed = []; staging = []; queries = [] }
@@ -55,11 +68,16 @@ add_command d barrier m = record m {
 
 abbrev pub make_command : ℕ → Work → Option Cond → Made → Made
 make_command call w skip m =
-    add_command (record { number = suc m.commands; call = call; work = w; cond = skip }) (barrier_before m.recent (record { number = suc m.commands; call = call; work = w; cond = skip })) m
+    add_command (record { number = suc m.commands; call = call; work = w; cond = skip })
+    (barrier_before m.recent (record { number = suc m.commands; call = call; work = w; cond = skip })) m
 
 abbrev pub give_block : Script → ℕ → Option ℕ → Made → Made
 give_block script buffer None m = m
-give_block script buffer (Some b) m = record m { blocks = updated buffer (Some b) m.blocks; is_staging = updated b (script.is_staging buffer) m.is_staging }
+give_block script buffer (Some b) m = record m {
+  blocks = updated buffer (Some b) m.blocks;
+  is_staging =
+      updated b (script.is_staging buffer) m.is_staging;
+}
 
 abbrev pub make_staging : Script → List Range → Made → Made
 make_staging script bound m = record m { staging = add_staging script m.blocks bound m.staging }
@@ -67,26 +85,44 @@ make_staging script bound m = record m { staging = add_staging script m.blocks b
 -- the bytes of a staged range are written, and a command copies them to the target
 abbrev pub make_copy : ℕ → Range → Option Range → Option Cond → Made → Made
 make_copy call source None skip m = m
-make_copy call source (Some target) skip m = make_command call (work.Copy source (range_on m.blocks target)) (cond_on m.blocks skip) m
+make_copy call source (Some target) skip m = make_command call (work.Copy source (range_on m.blocks target))
+    (cond_on m.blocks skip) m
 
 abbrev pub make_staged : Script → ℕ → List ℕ → Option Range → Option Cond → List Range → Option Range → Made → Made
 make_staged script call bytes target skip bound None m = m
-make_staged script call bytes target skip bound (Some source) m = make_staging script bound (make_copy call source target skip (make_write source bytes m))
+make_staged script call bytes target skip bound (Some source) m =
+    make_staging script bound (make_copy call source target skip (make_write source bytes m))
 
 abbrev pub block_range : Option ℕ → ℕ → ℕ → Range
 block_range None from to = range 0 from to
 block_range (Some b) from to = range b from to
 
 abbrev pub make_play : Script → ℕ → Play → List Range → Placed → Made → Made
-make_play script call (Create buffer bytes) bound p m = make_write (block_range p.block 0 (length bytes)) bytes (give_block script buffer p.block m)
-make_play script call (Discard buffer from bytes) bound p m = make_write (block_range p.block from (from + length bytes)) bytes (give_block script buffer p.block m)
-make_play script call (No_overwrite buffer from bytes) bound p m = make_write (range (block_of m.blocks buffer) from (from + length bytes)) bytes m
+make_play script call (Create buffer bytes) bound p m = make_write (block_range p.block 0 (length bytes)) bytes
+    (give_block script buffer p.block m)
+make_play script call (Discard buffer from bytes) bound p m =
+    make_write (block_range p.block from (from + length bytes)) bytes (give_block script buffer p.block m)
+make_play script call (No_overwrite buffer from bytes) bound p m =
+    make_write (range (block_of m.blocks buffer) from (from + length bytes)) bytes m
 make_play script call (Stage bytes target skip) bound p m = make_staged script call bytes target skip bound p.staged m
-make_play script call (Command w skip) bound p m = make_staging script bound (make_command call (work_on m.blocks w) (cond_on m.blocks skip) m)
-make_play script call (Destroy buffer) bound p m = record m { blocks = updated buffer None m.blocks; staging = without_block (m.blocks buffer) m.staging }
+make_play script call (Command w skip) bound p m = make_staging script bound
+    (make_command call (work_on m.blocks w) (cond_on m.blocks skip) m)
+make_play script call (Destroy buffer) bound p m = record m {
+  blocks = updated buffer None m.blocks;
+  staging =
+      without_block (m.blocks buffer) m.staging;
+}
 make_play script call Create_shader bound p m = m
 make_play script call (Mark_query query begins) bound p m =
-    record m { queries = m.queries ++ record { call = call; query = query; begins = begins; before = suc m.commands } ∷ [] }
+    record m {
+      queries = m.queries ++ record {
+        call = call;
+        query = query;
+        begins = begins;
+        before =
+            suc m.commands;
+      } ∷ [];
+    }
 make_play script call Set_state bound p m = make_staging script bound m
 
 abbrev pub no_place : Placed
@@ -107,12 +143,14 @@ make_turns script (Refused call ∷ ts) ps m = make_turns script ts ps m
 make_turns script (Passed call ∷ ts) ps m = make_turns script ts ps m
 make_turns script (Flushed call ∷ ts) ps m = make_turns script ts ps m
 make_turns script (Asked call ask used may_pend ∷ ts) ps m = make_turns script ts ps m
-make_turns script (Item call item ends play bound ∷ ts) ps m = make_turns script ts (other_places ps) (make_play script call play bound (first_place ps) m)
+make_turns script (Item call item ends play bound ∷ ts) ps m =
+    make_turns script ts (other_places ps) (make_play script call play bound (first_place ps) m)
 
 -- the chunks from number k on, with the places of their items
 abbrev pub make_chunks : Script → ℕ → List (List Placed) → Made → Made
 make_chunks script k [] m = m
-make_chunks script k (ps ∷ pss) m = make_chunks script (suc k) pss (make_turns script (chunk_turns script k) ps (next_chunk m))
+make_chunks script k (ps ∷ pss) m = make_chunks script (suc k) pss
+    (make_turns script (chunk_turns script k) ps (next_chunk m))
 
 -- what the last of these chunks makes, the first of which is chunk 1
 abbrev pub made : Script → List (List Placed) → Made

@@ -1,10 +1,12 @@
 -- One step of one part of the core, by what may be done and what it changes. The three readings share their words.
-use Rattle.std.specs.Prelude.{◌≡◌, ℕ, Bool, suc, ◌+◌, ◌*◌, ◌<◌, ◌≤◌, true, false, List, [], ◌∷◌, ◌++◌, length, Option, Some, None, slice_get, slice_set, ◌⊎◌}
+use Rattle.std.specs.Prelude.{◌≡◌, ℕ, Bool, suc, ◌+◌, ◌*◌, ◌<◌, ◌≤◌, true, false, List, [], ◌∷◌, ◌++◌, length, Option}
+use Rattle.std.specs.Prelude.{Some, None, slice_get, slice_set, ◌⊎◌}
 use Rattle.std.specs.List.{AllByRecursion}
 use Rattle.vk_types.specs.Effects.{Meaning, act_effect}
 use Rattle.vk_types.specs.Entries.{Entry, entry_before, run_entries}
 use Rattle.core_model.specs.Script.{Script, updated}
-use Rattle.core_model.specs.CoreState.{Segment, Running, Message, of_messages, rests, marks, Home, Returning, has_class, Core, finished_count}
+use Rattle.core_model.specs.CoreState.{Segment, Running, Message, of_messages, rests, marks, Home, Returning}
+use Rattle.core_model.specs.CoreState.{has_class, Core, finished_count}
 use Rattle.core_model.specs.Readings.{Reading, First_choices, chooses_first, has_place}
 use Rattle.core_model.specs.Owners.{finish_owner}
 use Rattle.core_model.specs.TakingPosts.{TakesPosts, with_fence}
@@ -77,14 +79,16 @@ Step meaning reading script old (Run j) new =
       ran = old.ran ++ x ∷ [];
     })
 Step meaning reading script old Complete new =
-    (r : Running) × (rs : List Running) × (old.accepted ≡ r ∷ rs) × (r.rest ≡ []) × (has_place reading (length old.completions) ≡ true)
+    (r : Running) × (rs : List Running) × (old.accepted ≡ r ∷ rs) × (r.rest ≡ [])
+    × (has_place reading (length old.completions) ≡ true)
     × (new ≡ record old {
       accepted = rs;
       completions = old.completions
           ++ record {
             segment = r.segment;
             snaps = snaps_of r.segment rs old.memory;
-            values = values_of old.counts (old.taken ++ (of_messages old.posts ++ of_messages old.completions)) r.segment;
+            values = values_of old.counts (old.taken ++ (of_messages old.posts ++ of_messages old.completions))
+                r.segment;
           }
           ∷ [];
     })
@@ -96,18 +100,23 @@ Step meaning reading script old Finish new =
       owner = λ b. finish_owner (suc (finished_count old)) b (old.owner b);
     })
 Step meaning reading script old (Come_home block place) new =
-    (class : ℕ) × (k : ℕ) × (old.owner block ≡ Returning k) × (class * CLASS_BLOCKS ≤ block) × (block < class * CLASS_BLOCKS + CLASS_BLOCKS)
+    (class : ℕ) × (k : ℕ) × (old.owner block ≡ Returning k) × (class * CLASS_BLOCKS ≤ block)
+    × (block < class * CLASS_BLOCKS + CLASS_BLOCKS)
     × (slice_get (old.board.places class) place ≡ Some None)
     × (new ≡ record old {
       owner = updated block (Home k) old.owner;
-      board = record old.board { places = updated class (slice_set (old.board.places class) place (Some block)) old.board.places };
+      board = record old.board {
+        places = updated class (slice_set (old.board.places class) place (Some block))
+            old.board.places;
+      };
     })
 
--- The core that is stepped -----------------------------------------------------------------------------------------------
+-- The core that is stepped ------------------------------------------------------------------------------------------
 
 abbrev pub Chain : Meaning → Reading → Script → Core → List Event → Core → Type 0
 Chain meaning reading script old [] new = new ≡ old
-Chain meaning reading script old (e ∷ es) new = (mid : Core) × Step meaning reading script old e mid × Chain meaning reading script mid es new
+Chain meaning reading script old (e ∷ es) new = (mid : Core) × Step meaning reading script old e mid
+    × Chain meaning reading script mid es new
 
 -- the lowest vacant place
 abbrev pub first_vacant : ℕ → List (Option ℕ) → Option ℕ
@@ -120,11 +129,14 @@ abbrev pub AllComeHome : Meaning → Script → List ℕ → Core → Core → T
 AllComeHome meaning script [] old new = new ≡ old
 AllComeHome meaning script (b ∷ bs) old new =
     ((has_class b ≡ false) × AllComeHome meaning script bs old new)
-    ⊎ ((has_class b ≡ true) × (class : ℕ) × (place : ℕ) × (class * CLASS_BLOCKS ≤ b) × (b < class * CLASS_BLOCKS + CLASS_BLOCKS)
+    ⊎ ((has_class b ≡ true) × (class : ℕ) × (place : ℕ) × (class * CLASS_BLOCKS ≤ b)
+    × (b < class * CLASS_BLOCKS + CLASS_BLOCKS)
     × (first_vacant 0 (old.board.places class) ≡ Some place)
-    × (mid : Core) × Step meaning First_choices script old (Come_home b place) mid × AllComeHome meaning script bs mid new)
+    × (mid : Core) × Step meaning First_choices script old (Come_home b place) mid
+    × AllComeHome meaning script bs mid new)
 
--- the event with the choices of the core that is stepped: a Finish takes all its blocks home, and no block comes home by itself
+-- the event with the choices of the core that is stepped: a Finish takes all its blocks home, and no block comes home
+-- by itself
 abbrev pub FirstStep : Meaning → Script → Core → Event → Core → Type 0
 FirstStep meaning script old (App n) new = Step meaning First_choices script old (App n) new
 FirstStep meaning script old Cs new = Step meaning First_choices script old Cs new
@@ -135,7 +147,8 @@ FirstStep meaning script old (Run j) new = Step meaning First_choices script old
 FirstStep meaning script old Complete new = Step meaning First_choices script old Complete new
 FirstStep meaning script old Finish new =
     (mid : Core) × Step meaning First_choices script old Finish mid
-    × (m : Message) × (ms : List Message) × (old.completions ≡ m ∷ ms) × AllComeHome meaning script (marks m.segment) mid new
+    × (m : Message) × (ms : List Message) × (old.completions ≡ m ∷ ms)
+    × AllComeHome meaning script (marks m.segment) mid new
 FirstStep meaning script old (Come_home block place) new = ⊥
 
 -- a step of the core that is stepped. None comes after the end

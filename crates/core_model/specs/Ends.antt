@@ -19,8 +19,8 @@ sum_of f (x ∷ xs) = f x + sum_of f xs
 abbrev pub to_come : Core → List Segment
 to_come core = core.submissions ++ (core.batches ++ (core.chunks ++ core.open_chunk ∷ []))
 
--- how far a state is from the end: each turn to come, chunk, command, shader without a module and the end itself counts as much
--- as it may cost steps
+-- how far a state is from the end: each turn to come, chunk, command, shader without a module and the end itself
+-- counts as much as it may cost steps
 abbrev pub distance : Core → ℕ
 distance core =
     12 * length core.future
@@ -40,7 +40,8 @@ distance core =
 -- steps of the core that is stepped
 abbrev pub CoreChain : Meaning → Script → Core → List Event → Core → Type 0
 CoreChain meaning script old [] new = new ≡ old
-CoreChain meaning script old (e ∷ es) new = (mid : Core) × CoreStep meaning script old e mid × CoreChain meaning script mid es new
+CoreChain meaning script old (e ∷ es) new = (mid : Core) × CoreStep meaning script old e mid
+    × CoreChain meaning script mid es new
 
 -- steps of the other parts lead to a post that App can take
 abbrev pub Posts : Meaning → Reading → Script → Core → Type 0

@@ -1,5 +1,7 @@
--- Work that a device can do, wherever its buffers stand: lengths agree, words are whole, slots rise, and what is written is apart.
-use Rattle.std.specs.Prelude.{◌≡◌, ℕ, suc, ◌+◌, ◌-◌, ◌*◌, ◌%◌, ◌<◌, ◌≤◌, Bool, true, false, ◌||◌, List, [], ◌∷◌, Option, Some, None, ◌⊎◌}
+-- Work that a device can do, wherever its buffers stand: lengths agree, words are whole, slots rise, and what is
+-- written is apart.
+use Rattle.std.specs.Prelude.{◌≡◌, ℕ, suc, ◌+◌, ◌-◌, ◌*◌, ◌%◌, ◌<◌, ◌≤◌, Bool, true, false, ◌||◌, List, [], ◌∷◌}
+use Rattle.std.specs.Prelude.{Option, Some, None, ◌⊎◌}
 use Rattle.std.specs.List.{AllByRecursion}
 use Rattle.dx_types.specs.declared.range.Range.{Range}
 use Rattle.dx_types.specs.declared.limits.TheConstants.{CONSTANT_SLOTS, SRV_SLOTS, UAV_SLOTS, MAX_BUFFER_SIZE}
@@ -12,7 +14,8 @@ use Rattle.vk_types.specs.declared.command.Work.{Work}
 use Rattle.vk_types.specs.declared.command.Work.TheVariants as work
 use Rattle.vk_types.specs.declared.command.Cond.{Cond}
 use Rattle.base_lemmas.specs.Lists.{Pairwise}
-use Rattle.core_model.specs.Script.{Play, Create, Discard, No_overwrite, Stage, Command, Destroy, Create_shader, Mark_query, Set_state}
+use Rattle.core_model.specs.Script.{Play, Create, Discard, No_overwrite, Stage, Command, Destroy, Create_shader}
+use Rattle.core_model.specs.Script.{Mark_query, Set_state}
 
 -- how many bytes a range has
 abbrev pub range_size : Range → ℕ

@@ -22,7 +22,8 @@ is_home (Come_home block place) = true
 -- the event as a step with free choices, with others behind it that bring blocks home
 abbrev pub FreeSteps : Meaning → Script → Core → Event → Core → Type 0
 FreeSteps meaning script old e new =
-    (homes : List Event) × AllByRecursion (λ e. is_home e ≡ true) homes × Chain meaning Any_choices script old (e ∷ homes) new
+    (homes : List Event) × AllByRecursion (λ e. is_home e ≡ true) homes
+    × Chain meaning Any_choices script old (e ∷ homes) new
 
 -- steps with free choices
 abbrev pub FreeRun : Meaning → Script → Core → Core → Type 0

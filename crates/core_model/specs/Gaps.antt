@@ -1,4 +1,5 @@
--- Scripts that no log has, and that are not lawful: their runs would end early, wait for ever, or do what no device can.
+-- Scripts that no log has, and that are not lawful: their runs would end early, wait for ever, or do what no device
+-- can.
 use Rattle.std.specs.Prelude.{false, true, List, [], ◌∷◌, Some, None}
 use Rattle.vk_types.specs.declared.command.Groups.TheVariants as groups
 use Rattle.vk_types.specs.declared.command.SlotName.TheVariants as slot
@@ -34,5 +35,7 @@ abbrev pub odd_slots : Script
 odd_slots = script_with (
     buffer 1 []
     ∷ Item 2 2 true Create_shader []
-    ∷ Item 3 3 true (Command (work.Dispatch 2 (groups.Direct 1 1 1) (record { slot = slot.Uav 0; range = all_of 1 } ∷ record { slot = slot.Uav 1; range = range 1 0 8 } ∷ [])) None) (all_of 1 ∷ range 1 0 8 ∷ [])
+    ∷ Item 3 3 true
+    (Command (work.Dispatch 2 (groups.Direct 1 1 1) (record { slot = slot.Uav 0; range = all_of 1 } ∷ record
+    { slot = slot.Uav 1; range = range 1 0 8 } ∷ [])) None) (all_of 1 ∷ range 1 0 8 ∷ [])
     ∷ [])

@@ -1,6 +1,8 @@
 -- What the host writes of a script, in the order of its items.
 use Rattle.std.specs.Prelude.{ℕ, List, [], ◌∷◌, ◌++◌}
-use Rattle.core_model.specs.Script.{Play, Create, Discard, No_overwrite, Stage, Command, Destroy, Create_shader, Mark_query, Set_state, Turn, Refused, Passed, Flushed, Asked, Item, Script, padded}
+use Rattle.core_model.specs.Script.{Play, Create, Discard, No_overwrite, Stage, Command, Destroy, Create_shader}
+use Rattle.core_model.specs.Script.{Mark_query, Set_state, Turn, Refused, Passed, Flushed, Asked, Item, Script}
+use Rattle.core_model.specs.Script.{padded}
 use Rattle.core_model.specs.Adding.{length_of}
 
 -- nothing is written to an empty range
@@ -8,7 +10,8 @@ abbrev pub if_some : List ℕ → List (List ℕ)
 if_some [] = []
 if_some (b ∷ bs) = (b ∷ bs) ∷ []
 
--- a created buffer's whole block, with zeros behind its data; a discarded buffer whole; the bytes of a no-overwrite; staged bytes
+-- a created buffer's whole block, with zeros behind its data; a discarded buffer whole; the bytes of a no-overwrite;
+-- staged bytes
 abbrev pub play_bytes : Script → Play → List (List ℕ)
 play_bytes script (Create buffer bytes) = if_some (padded 0 bytes (length_of script buffer))
 play_bytes script (Discard buffer from bytes) = if_some (padded from bytes (script.size buffer))

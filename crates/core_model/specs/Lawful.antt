@@ -1,5 +1,7 @@
--- What the checks of the calls make sure of in a script: ranges fit, bound bytes and last uses are as they are said to be.
-use Rattle.std.specs.Prelude.{◌≡◌, ℕ, ◌+◌, ◌<◌, ◌≤◌, Bool, true, false, cond, not, ◌&&◌, ◌||◌, ◌==◌, nat_lt, List, [], ◌∷◌, ◌++◌, length, Option, Some, None}
+-- What the checks of the calls make sure of in a script: ranges fit, bound bytes and last uses are as they are said
+-- to be.
+use Rattle.std.specs.Prelude.{◌≡◌, ℕ, ◌+◌, ◌<◌, ◌≤◌, Bool, true, false, cond, not, ◌&&◌, ◌||◌, ◌==◌, nat_lt, List, []}
+use Rattle.std.specs.Prelude.{◌∷◌, ◌++◌, length, Option, Some, None}
 use Rattle.std.specs.List.{list_any, AllByRecursion}
 use Rattle.dx_types.specs.declared.range.Range.{Range}
 use Rattle.dx_types.specs.declared.limits.TheConstants.{CLASSES, MAX_BUFFER_SIZE, MAX_DYNAMIC_OF_CLASS}
@@ -11,7 +13,9 @@ use Rattle.base_lemmas.specs.Lists.{Pairwise}
 use Rattle.vk_types.specs.Memory.{range}
 use Rattle.vk_types.specs.Hazards.{touch, write_access, work_touches, cond_touches, is_touched}
 use Rattle.vk_types.specs.Effects.{Meaning}
-use Rattle.core_model.specs.Script.{Play, Create, Discard, No_overwrite, Stage, Command, Destroy, Create_shader, Mark_query, Set_state, Ask, Bytes, Count, Constant, Turn, Refused, Passed, Flushed, Asked, Item, Script, at_start, in_order}
+use Rattle.core_model.specs.Script.{Play, Create, Discard, No_overwrite, Stage, Command, Destroy, Create_shader}
+use Rattle.core_model.specs.Script.{Mark_query, Set_state, Ask, Bytes, Count, Constant, Turn, Refused, Passed}
+use Rattle.core_model.specs.Script.{Flushed, Asked, Item, Script, at_start, in_order}
 use Rattle.core_model.specs.Chunking.{call_of, ends_call, is_entry}
 use Rattle.core_model.specs.Owners.{in_ranges}
 use Rattle.core_model.specs.Queries.{marks_from}
@@ -59,7 +63,8 @@ bound_by (Item call item ends play bound) = bound
 
 abbrev pub is_bound : ℕ → List Turn → Bool → ℕ → Bool
 is_bound buffer [] found i = found
-is_bound buffer (t ∷ ts) found i = is_bound buffer ts (cond (resets buffer t) false (found || in_ranges (bound_by t) buffer i)) i
+is_bound buffer (t ∷ ts) found i =
+    is_bound buffer ts (cond (resets buffer t) false (found || in_ranges (bound_by t) buffer i)) i
 
 -- the last call that binds a byte of the buffer; the last that ends the query
 abbrev pub binds_buffer : ℕ → List Range → Bool
@@ -67,7 +72,8 @@ binds_buffer buffer rs = list_any (λ r. (r.block == buffer) && nat_lt r.from r.
 
 abbrev pub last_binding : ℕ → List Turn → Option ℕ → Option ℕ
 last_binding buffer [] found = found
-last_binding buffer (t ∷ ts) found = last_binding buffer ts (cond (binds_buffer buffer (bound_by t)) (Some (call_of t)) found)
+last_binding buffer (t ∷ ts) found =
+    last_binding buffer ts (cond (binds_buffer buffer (bound_by t)) (Some (call_of t)) found)
 
 abbrev pub ends_query : ℕ → Turn → Bool
 ends_query query (Refused call) = false
@@ -101,11 +107,13 @@ is_item_of n (Item call item ends play bound) = call == n
 abbrev pub UsesRightly : List Turn → ℕ → Ask → Option ℕ → Type 0
 UsesRightly front call (Bytes source) used = used ≡ last_binding source.block front None
 UsesRightly front call (Count query) used = used ≡ last_end query front None
-UsesRightly front call (Constant value) used = (n : ℕ) × (used ≡ Some n) × (n < call) × (list_any (is_item_of n) front ≡ true)
+UsesRightly front call (Constant value) used = (n : ℕ) × (used ≡ Some n) × (n < call)
+    × (list_any (is_item_of n) front ≡ true)
 
 -- a range of a buffer that lives when the turns before it were taken
 abbrev pub Fits : Meaning → Script → List Turn → Range → Type 0
-Fits meaning script front r = ((in_order meaning script front at_start).live r.block ≡ true) × (r.to ≤ script.size r.block)
+Fits meaning script front r = ((in_order meaning script front at_start).live r.block ≡ true)
+    × (r.to ≤ script.size r.block)
 
 -- the query is begun behind these marks, where `was` says whether it was before
 abbrev pub is_begun : ℕ → List QueryMark → Bool → Bool
@@ -114,9 +122,11 @@ is_begun query (m ∷ ms) was = is_begun query ms (cond (m.query == query) m.beg
 
 -- what a play asks of the turns before it
 abbrev pub PlaysRightly : Meaning → Script → List Turn → ℕ → Play → Type 0
-PlaysRightly meaning script front call (Create buffer bytes) = (buffer ≡ call) × (length bytes ≤ script.size buffer) × ((in_order meaning script front at_start).live buffer ≡ false)
+PlaysRightly meaning script front call (Create buffer bytes) = (buffer ≡ call) × (length bytes ≤ script.size buffer)
+    × ((in_order meaning script front at_start).live buffer ≡ false)
 PlaysRightly meaning script front call (Discard buffer from bytes) =
-    Fits meaning script front (range buffer from (from + length bytes)) × ((class : ℕ) × (script.class buffer ≡ Some class))
+    Fits meaning script front (range buffer from (from + length bytes))
+    × ((class : ℕ) × (script.class buffer ≡ Some class))
 PlaysRightly meaning script front call (No_overwrite buffer from bytes) =
     Fits meaning script front (range buffer from (from + length bytes))
     × ((class : ℕ) × (script.class buffer ≡ Some class))
@@ -127,7 +137,8 @@ PlaysRightly meaning script front call (Command w skip) = Unit {0}
 PlaysRightly meaning script front call (Destroy buffer) = (in_order meaning script front at_start).live buffer ≡ true
 PlaysRightly meaning script front call Create_shader = Unit {0}
 -- a query that is begun is ended before it is begun anew, and none is ended that is not begun
-PlaysRightly meaning script front call (Mark_query query begins) = is_begun query (marks_from 0 front) false ≡ not begins
+PlaysRightly meaning script front call (Mark_query query begins) =
+    is_begun query (marks_from 0 front) false ≡ not begins
 PlaysRightly meaning script front call Set_state = Unit {0}
 
 -- the shaders that a play's command runs
@@ -163,17 +174,21 @@ ClassFits script buffer (Some class) = (class < CLASSES) × (script.size buffer 
 -- at most 32 dynamic buffers of a class live
 abbrev pub FewLive : Script → (ℕ → Bool) → Type 0
 FewLive script live =
-    (class : ℕ) (buffers : List ℕ) → Pairwise (λ r s. r ≡ s → ⊥) buffers → AllByRecursion (λ r. (live r ≡ true) × (script.class r ≡ Some class)) buffers
+    (class : ℕ) (buffers : List ℕ) → Pairwise (λ r s. r ≡ s → ⊥) buffers
+    → AllByRecursion (λ r. (live r ≡ true) × (script.class r ≡ Some class)) buffers
     → length buffers ≤ MAX_DYNAMIC_OF_CLASS
 
 -- what may come behind a turn: a later call, or, where its call goes on, an item of the same
 abbrev pub ComesNext : Turn → Turn → Type 0
-ComesNext t u = (ends_call t ≡ true → call_of t < call_of u) × (ends_call t ≡ false → (is_entry u ≡ true) × (call_of u ≡ call_of t))
+ComesNext t u = (ends_call t ≡ true → call_of t < call_of u)
+    × (ends_call t ≡ false → (is_entry u ≡ true) × (call_of u ≡ call_of t))
 
 -- what is asked for: bytes that a live staging buffer has, or the count of a query that was ended and is not begun anew
 abbrev pub AsksRightly : Meaning → Script → List Turn → Ask → Type 0
-AsksRightly meaning script front (Bytes source) = Fits meaning script front source × (script.is_staging source.block ≡ true) × (source.from < source.to)
-AsksRightly meaning script front (Count query) = ((n : ℕ) × (last_end query front None ≡ Some n)) × (is_begun query (marks_from 0 front) false ≡ false)
+AsksRightly meaning script front (Bytes source) = Fits meaning script front source
+    × (script.is_staging source.block ≡ true) × (source.from < source.to)
+AsksRightly meaning script front (Count query) = ((n : ℕ) × (last_end query front None ≡ Some n))
+    × (is_begun query (marks_from 0 front) false ≡ false)
 AsksRightly meaning script front (Constant value) = Unit {0}
 
 pub record IsLawful (meaning : Meaning) (script : Script) : Type 0 where
@@ -192,12 +207,15 @@ pub record IsLawful (meaning : Meaning) (script : Script) : Type 0 where
   pub formed : (front : List Turn) (call item : ℕ) (ends : Bool) (play : Play) (bound : List Range) (back : List Turn)
       → script.turns ≡ front ++ Item call item ends play bound ∷ back → PlayIsFormed play
   pub shaders : (front : List Turn) (call item : ℕ) (ends : Bool) (play : Play) (bound : List Range) (back : List Turn)
-      → script.turns ≡ front ++ Item call item ends play bound ∷ back → AllByRecursion (λ shader. is_among shader (created front) ≡ true) (play_shaders play)
+      → script.turns ≡ front ++ Item call item ends play bound ∷ back
+      → AllByRecursion (λ shader. is_among shader (created front) ≡ true) (play_shaders play)
   -- what is bound, and what a command touches, fits and has a byte, and what it touches is bound
   pub fits : (front : List Turn) (call item : ℕ) (ends : Bool) (play : Play) (bound : List Range) (back : List Turn)
-      → script.turns ≡ front ++ Item call item ends play bound ∷ back → AllByRecursion (λ r. Fits meaning script front r × (r.from < r.to)) bound
+      → script.turns ≡ front ++ Item call item ends play bound ∷ back
+      → AllByRecursion (λ r. Fits meaning script front r × (r.from < r.to)) bound
   pub filled : (front : List Turn) (call item : ℕ) (ends : Bool) (play : Play) (bound : List Range) (back : List Turn)
-      → script.turns ≡ front ++ Item call item ends play bound ∷ back → AllByRecursion (λ t. t.range.from < t.range.to) (play_touches play)
+      → script.turns ≡ front ++ Item call item ends play bound ∷ back
+      → AllByRecursion (λ t. t.range.from < t.range.to) (play_touches play)
   pub quiet : (front : List Turn) (call item : ℕ) (ends : Bool) (play : Play) (bound : List Range) (back : List Turn)
       → script.turns ≡ front ++ Item call item ends play bound ∷ back → may_bind play ≡ false → bound ≡ []
   pub binds : (front : List Turn) (call item : ℕ) (ends : Bool) (play : Play) (bound : List Range) (back : List Turn)
@@ -206,4 +224,5 @@ pub record IsLawful (meaning : Meaning) (script : Script) : Type 0 where
   pub sizes : (buffer : ℕ) → script.size buffer ≤ MAX_BUFFER_SIZE
   pub classes : (buffer : ℕ) → ClassFits script buffer (script.class buffer)
   pub staging : (buffer : ℕ) → script.is_staging buffer ≡ true → script.class buffer ≡ None
-  pub few : (front back : List Turn) → script.turns ≡ front ++ back → FewLive script (in_order meaning script front at_start).live
+  pub few : (front back : List Turn) → script.turns ≡ front ++ back
+      → FewLive script (in_order meaning script front at_start).live

@@ -17,6 +17,7 @@ pub mod Batching
 pub mod BatchOrder
 pub mod Succession
 pub mod Spine
+pub mod BatchActs
 pub mod Formed
 pub mod Lawful
 pub mod Gaps
@@ -36,5 +37,6 @@ pub mod Batches
 pub mod Messages
 pub mod Marked
 pub mod Ends
+pub mod Reached
 pub mod HostBytes
 pub mod Stills

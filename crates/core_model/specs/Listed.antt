@@ -7,7 +7,8 @@ use Rattle.vk_types.specs.declared.op.VkOp.TheVariants as op
 use Rattle.vk_types.specs.Effects.{is_host}
 use Rattle.vk_types.specs.Listing.{AreContents}
 use Rattle.vk_types.specs.BarrierCauses.{recent_after, barriers_from}
-use Rattle.vk_types.specs.Entries.{Entry, Counts, next, after_host, after_barrier, after_submit, after_fence, rest_of, entries_from, start_counts}
+use Rattle.vk_types.specs.Entries.{Entry, Counts, next, after_host, after_barrier, after_submit, after_fence, rest_of}
+use Rattle.vk_types.specs.Entries.{entries_from, start_counts}
 use Rattle.vk_types.specs.RunListing.{IsNumbered, IsWhole}
 use Rattle.core_model.specs.AppActs.{device_commands}
 use Rattle.core_model.specs.RunReads.{ReadsStaging}
@@ -27,7 +28,13 @@ abbrev pub after_op : ListState → VkOp → ListState
 after_op s (op.HostWrite r call) = s
 after_op s (op.Pipeline shader) = s
 after_op s (op.Barrier barrier) = s
-after_op s (op.Command d) = record { recent = recent_after s.recent d; batch = s.batch ++ d ∷ []; chunk = s.chunk; inside = true }
+after_op s (op.Command d) = record {
+  recent = recent_after s.recent d;
+  batch = s.batch ++ d ∷ [];
+  chunk =
+      s.chunk;
+  inside = true;
+}
 after_op s (op.Submit k) = record { recent = s.recent; batch = []; chunk = suc s.chunk; inside = false }
 after_op s (op.Fence k) = s
 after_op s (op.HostRead r call) = s
@@ -36,15 +43,15 @@ abbrev pub after_ops : ListState → List VkOp → ListState
 after_ops s [] = s
 after_ops s (o ∷ ops) = after_ops (after_op s o) ops
 
--- behind what was listed so far these operations have the barriers that their hazards cause, number their submits, and keep
--- each batch whole
+-- behind what was listed so far these operations have the barriers that their hazards cause, number their submits,
+-- and keep each batch whole
 pub record GoesOn (staging : ℕ → Bool) (s : ListState) (ops : List VkOp) : Type 0 where
   pub barriers : ops ≡ barriers_from staging s.recent s.batch ops
   pub numbers : IsNumbered s.chunk ops
   pub whole : IsWhole s.inside ops
 
--- an entry without the counts that order nothing: the barriers before an act of the host, and the fences and acts of the host
--- before a command
+-- an entry without the counts that order nothing: the barriers before an act of the host, and the fences and acts of
+-- the host before a command
 abbrev pub plain : Entry → Entry
 plain x = record {
   act = x.act;
@@ -82,7 +89,8 @@ contents_after contents (op.Submit k ∷ ops) = contents_after contents ops
 contents_after contents (op.Fence k ∷ ops) = contents_after contents ops
 contents_after contents (op.HostRead r call ∷ ops) = contents_after contents ops
 
--- the greatest fence of a listing and its acts of the host, and the barriers before commands with the open chunk's operations
+-- the greatest fence of a listing and its acts of the host, and the barriers before commands with the open chunk's
+-- operations
 pub record IsCounted (listing ops : List VkOp) (greatest acts barriers : ℕ) : Type 0 where
   pub fence : (after_counts start_counts listing).fence ≡ greatest
   pub number : (after_counts start_counts listing).number ≡ acts
@@ -99,7 +107,8 @@ is_of_device (op.Fence k) = false
 is_of_device (op.HostRead r call) = false
 
 -- a listing with its acts, and the open chunk's operations that will stand behind it with its commands
-pub record IsListed (staging : ℕ → Bool) (listing ops : List VkOp) (contents : List (List ℕ)) (recent : List c.Command) (commands : List Entry)
+pub record IsListed (staging : ℕ → Bool) (listing ops : List VkOp) (contents : List (List ℕ))
+    (recent : List c.Command) (commands : List Entry)
     (number : ℕ) (acts : List Entry) : Type 0 where
   pub closed : GoesOn staging nothing_listed listing
   pub opened : GoesOn staging (after_ops nothing_listed listing) ops

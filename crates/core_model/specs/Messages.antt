@@ -1,5 +1,5 @@
--- Which messages stand for the chunks of a state: a message's number and its last call are its chunk's, and its parts are what the
--- state has of it.
+-- Which messages stand for the chunks of a state: a message's number and its last call are its chunk's, and its parts
+-- are what the state has of it.
 use Rattle.std.specs.Prelude.{◌≡◌, ℕ, suc, ◌-◌, cond, List, [], ◌∷◌, ◌++◌, length, map, Some, slice_get}
 use Rattle.std.specs.List.{AllByRecursion}
 use Rattle.dx_types.specs.declared.range.Range.{Range}
@@ -13,12 +13,14 @@ use Rattle.vk_types.specs.declared.message.Completion.{Completion}
 use Rattle.vk_types.specs.declared.message.Post.{Post}
 use Rattle.vk_types.specs.declared.op.VkOp.{VkOp}
 use Rattle.base_lemmas.specs.Lists.{numbers_from}
-use Rattle.core_model.specs.Script.{Create, Discard, No_overwrite, Stage, Command, Destroy, Create_shader, Mark_query, Set_state, Turn, Refused, Passed, Flushed, Asked, Item, Script}
+use Rattle.core_model.specs.Script.{Create, Discard, No_overwrite, Stage, Command, Destroy, Create_shader, Mark_query}
+use Rattle.core_model.specs.Script.{Set_state, Turn, Refused, Passed, Flushed, Asked, Item, Script}
 use Rattle.core_model.specs.Chunking.{last_call}
 use Rattle.core_model.specs.CoreState.{Page, Segment, Message, marks, taken_blocks, has_class}
 use Rattle.core_model.specs.Batching.{made}
 use Rattle.core_model.specs.Batches.{batches}
-use Rattle.core_model.specs.Succession.{Head, batch_head, completion_head, post_head, writes_as, only_class, class_of, Log, ChunkView}
+use Rattle.core_model.specs.Succession.{Head, batch_head, completion_head, post_head, writes_as, only_class, class_of}
+use Rattle.core_model.specs.Succession.{Log, ChunkView}
 
 -- what the message of a chunk has that stands behind these
 abbrev pub head_behind : List Segment → Segment → Head
@@ -32,7 +34,7 @@ heads_behind front (s ∷ ss) = head_behind front s ∷ heads_behind (front ++ s
 abbrev pub heads : List Segment → List Head
 heads ss = heads_behind [] ss
 
--- Blocks and pages -------------------------------------------------------------------------------------------------------------------
+-- Blocks and pages --------------------------------------------------------------------------------------------------
 
 abbrev pub page_of : Block → Page
 page_of b = record { block = b.number; len = length (bytes_of b) }
@@ -64,21 +66,23 @@ takers (t ∷ ts) = takers_of t ++ takers ts
 abbrev pub AreAsLong : Script → List ℕ → List Block → Type 0
 AreAsLong script [] bs = bs ≡ []
 AreAsLong script (r ∷ rs) bs =
-    (b : Block) × (others : List Block) × (bs ≡ b ∷ others) × (length (bytes_of b) ≡ block_length script r b.number) × AreAsLong script rs others
+    (b : Block) × (others : List Block) × (bs ≡ b ∷ others) × (length (bytes_of b) ≡ block_length script r b.number)
+    × AreAsLong script rs others
 
 -- the blocks that the chunk's items took, in order
 pub record AreTaken (script : Script) (s : Segment) (blocks : List Block) : Type 0 where
   pub numbers : map (λ b. b.number) blocks ≡ taken_blocks s
   pub lengths : AreAsLong script (takers s.turns) blocks
 
--- Messages ----------------------------------------------------------------------------------------------------------------------------
+-- Messages ----------------------------------------------------------------------------------------------------------
 
 pub record IsChunk (script : Script) (front : List Segment) (s : Segment) (m : ChunkView) : Type 0 where
   pub head : m.head ≡ head_behind front s
   pub pages : map page_of m.pages ≡ s.pages
   pub blocks : AreTaken script s m.blocks
 
--- the batch's operations are those that stand in the listing; what the host writes are the parts that the items have in the log
+-- the batch's operations are those that stand in the listing; what the host writes are the parts that the items have
+-- in the log
 pub record IsBatch (log : Log) (listing : List VkOp) (front : List Segment) (s : Segment) (m : Batch) : Type 0 where
   pub head : batch_head m ≡ head_behind front s
   pub pages : map page_of m.pages.items ≡ s.pages
@@ -87,12 +91,14 @@ pub record IsBatch (log : Log) (listing : List VkOp) (front : List Segment) (s :
   pub marks : m.marks.items ≡ marks s
   pub staging : m.staging.items ≡ s.staging
   pub queries : m.queries.items ≡ s.queries
-  pub writes : map (writes_as log.part) m.writes.items ≡ (made log.script (map (λ s. s.placed) (front ++ s ∷ []))).writes
+  pub writes : map (writes_as log.part) m.writes.items
+      ≡ (made log.script (map (λ s. s.placed) (front ++ s ∷ []))).writes
 
 -- a copy is the message's of a block of which the chunk names a staging range, as far as that goes
 abbrev pub IsCopy : Message → Snap → Type 0
 IsCopy m s =
-    (before : List Range) × (r : Range) × (after : List Range) × (m.segment.staging ≡ before ++ r ∷ after) × (r.block ≡ s.block)
+    (before : List Range) × (r : Range) × (after : List Range) × (m.segment.staging ≡ before ++ r ∷ after)
+    × (r.block ≡ s.block)
     × (bytes : ℕ → ℕ) × (m.snaps s.block ≡ Some bytes) × (s.bytes ≡ map bytes (numbers_from r.from (r.to - r.from)))
 
 -- the blocks of a class that the chunk gave up, retired by it

@@ -1,5 +1,6 @@
 -- What the other parts look at: requested shaders, ready commands, copies of staging blocks, counts of queries.
-use Rattle.std.specs.Prelude.{ℕ, zero, suc, ◌+◌, ◌-◌, Bool, false, cond, not, ◌&&◌, ◌||◌, ◌==◌, nat_lt, nat_le, List, [], ◌∷◌, ◌++◌, Option, Some, None}
+use Rattle.std.specs.Prelude.{ℕ, zero, suc, ◌+◌, ◌-◌, Bool, false, cond, not, ◌&&◌, ◌||◌, ◌==◌, nat_lt, nat_le, List}
+use Rattle.std.specs.Prelude.{[], ◌∷◌, ◌++◌, Option, Some, None}
 use Rattle.std.specs.List.{list_any}
 use Rattle.vk_types.specs.declared.command.Work.{Work}
 use Rattle.vk_types.specs.declared.message.QueryMark.{QueryMark}
@@ -7,7 +8,8 @@ use Rattle.vk_types.specs.declared.message.QueryValue.{QueryValue}
 use Rattle.vk_types.specs.Memory.{Memory}
 use Rattle.vk_types.specs.Effects.{Meaning, Act, Host_write, Device, Host_read, invocations}
 use Rattle.vk_types.specs.Entries.{Entry, entry_before}
-use Rattle.core_model.specs.Script.{Create, Discard, No_overwrite, Stage, Command, Destroy, Create_shader, Mark_query, Set_state, Turn, Refused, Passed, Flushed, Asked, Item}
+use Rattle.core_model.specs.Script.{Create, Discard, No_overwrite, Stage, Command, Destroy, Create_shader, Mark_query}
+use Rattle.core_model.specs.Script.{Set_state, Turn, Refused, Passed, Flushed, Asked, Item}
 use Rattle.core_model.specs.Chunking.{last_call}
 use Rattle.core_model.specs.CoreState.{Segment, Running, of_running, last_finished}
 use Rattle.core_model.specs.Adding.{has_block}
@@ -53,11 +55,13 @@ abbrev pub unmade : List ℕ → List ℕ → List ℕ
 unmade modules [] = []
 unmade modules (s ∷ ss) = cond (is_among s modules) (unmade modules ss) (s ∷ unmade modules ss)
 
--- the ready commands among these, where those earlier ones are not run either: no earlier one that is not run is before it
+-- the ready commands among these, where those earlier ones are not run either: no earlier one that is not run is
+-- before it
 abbrev pub ready_among : List Entry → List Entry → List Entry
 ready_among earlier [] = []
 ready_among earlier (x ∷ xs) =
-    cond (list_any (λ y. entry_before y x) earlier) (ready_among (earlier ++ x ∷ []) xs) (x ∷ ready_among (earlier ++ x ∷ []) xs)
+    cond (list_any (λ y. entry_before y x) earlier) (ready_among (earlier ++ x ∷ []) xs)
+    (x ∷ ready_among (earlier ++ x ∷ []) xs)
 
 -- what these chunks bind uses the block
 abbrev pub used_in : List Segment → ℕ → Bool
@@ -68,8 +72,8 @@ used_in (s ∷ ss) block = has_block block s.bound || used_in ss block
 abbrev pub acts_touch : List Entry → ℕ → Bool
 acts_touch xs block = list_any (λ x. touches_block x.act block) xs
 
--- what the device sees of a batch uses the block: the batch names it as a staging buffer's, or a host write or a command of the batch
--- touches it
+-- what the device sees of a batch uses the block: the batch names it as a staging buffer's, or a host write or a
+-- command of the batch touches it
 abbrev pub needs_block : Segment → ℕ → Bool
 needs_block s block = has_block block s.staging || (acts_touch s.writes block || acts_touch s.commands block)
 
@@ -77,10 +81,11 @@ abbrev pub needed_in : List Segment → ℕ → Bool
 needed_in [] block = false
 needed_in (s ∷ ss) block = needs_block s block || needed_in ss block
 
--- a completion has a copy of each staging buffer that the batch uses and does not destroy, and that no later accepted batch
--- names or touches
+-- a completion has a copy of each staging buffer that the batch uses and does not destroy, and that no later accepted
+-- batch names or touches
 abbrev pub snaps_of : Segment → List Running → Memory → ℕ → Option (ℕ → ℕ)
-snaps_of s rs memory block = cond (has_block block s.staging && not (needed_in (of_running rs) block)) (Some (memory block)) None
+snaps_of s rs memory block = cond (has_block block s.staging && not (needed_in (of_running rs) block))
+    (Some (memory block)) None
 
 -- the query marks of all chunks up to one
 abbrev pub all_marks : List Segment → List QueryMark
@@ -113,7 +118,8 @@ values_between counts low high earlier (m ∷ ms) =
     (values_between counts low high (earlier ++ m ∷ []) ms)
 
 abbrev pub values_of : (ℕ → ℕ) → List Segment → Segment → List QueryValue
-values_of counts finished s = values_between counts (last_finished finished) (last_call s.turns) [] (all_marks (finished ++ s ∷ []))
+values_of counts finished s = values_between counts (last_finished finished) (last_call s.turns) []
+    (all_marks (finished ++ s ∷ []))
 
 abbrev pub counted : Meaning → Act → Memory → (ℕ → ℕ) → ℕ → ℕ
 counted meaning (Host_write target bytes) memory counts = counts

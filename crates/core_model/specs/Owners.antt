@@ -41,7 +41,8 @@ retired old chunk owner = λ b. cond (is_block old b) (retire_owner chunk (owner
 
 -- as a chunk's post is made, the blocks that it retired are on their way home; those of no class are dropped
 abbrev pub finish_owner : ℕ → ℕ → Owner → Owner
-finish_owner chunk block (Retired k since bound) = cond (k == chunk) (cond (has_class block) (Returning k) Dropped) (Retired k since bound)
+finish_owner chunk block (Retired k since bound) = cond (k == chunk) (cond (has_class block) (Returning k) Dropped)
+    (Retired k since bound)
 finish_owner chunk block (Live buffer since bound) = Live buffer since bound
 finish_owner chunk block (Paged k since bound) = Paged k since bound
 finish_owner chunk block Unmade = Unmade

@@ -1,5 +1,6 @@
 -- Blocks and pages that an item needs: which may be had, and which the core that is stepped takes.
-use Rattle.std.specs.Prelude.{◌≡◌, ℕ, suc, ◌+◌, ◌*◌, ◌<◌, Bool, true, false, cond, max, nat_le, List, [], ◌∷◌, ◌++◌, length, Option, Some, None, slice_get, slice_set}
+use Rattle.std.specs.Prelude.{◌≡◌, ℕ, suc, ◌+◌, ◌*◌, ◌<◌, Bool, true, false, cond, max, nat_le, List, [], ◌∷◌, ◌++◌}
+use Rattle.std.specs.Prelude.{length, Option, Some, None, slice_get, slice_set}
 use Rattle.core_model.specs.Script.{updated}
 use Rattle.core_model.specs.CoreState.{Page, Board, Newest, Pool}
 use Rattle.core_model.specs.Readings.{Reading, chooses_first}
@@ -12,9 +13,13 @@ pub data BlockChoice : Type 0 where
 
 pub data Takes : BlockChoice → ℕ → ℕ → Board → Board → Type 0 where
   From_home : (class block place : ℕ) (board : Board) → (slice_get (board.places class) place ≡ Some (Some block))
-      → Takes (At_home place) class block board (record board { places = updated class (slice_set (board.places class) place None) board.places })
+      → Takes (At_home place) class block board (record board {
+        places =
+            updated class (slice_set (board.places class) place None) board.places;
+      })
   New_made : (class : ℕ) (board : Board) → (board.made class < CLASS_BLOCKS)
-      → Takes New_block class (class * CLASS_BLOCKS + board.made class) board (record board { made = updated class (suc (board.made class)) board.made })
+      → Takes New_block class (class * CLASS_BLOCKS + board.made class) board
+      (record board { made = updated class (suc (board.made class)) board.made })
 
 -- the choice of the stepped core: the lowest place with a block, from number `at` on, else a new block
 abbrev pub first_home : ℕ → List (Option ℕ) → BlockChoice
@@ -24,7 +29,8 @@ first_home at (Some b ∷ ps) = At_home at
 
 abbrev pub TakesBlock : Reading → ℕ → ℕ → Board → Board → Type 0
 TakesBlock reading class block old new =
-    (choice : BlockChoice) × Takes choice class block old new × (chooses_first reading ≡ true → choice ≡ first_home 0 (old.places class))
+    (choice : BlockChoice) × Takes choice class block old new
+    × (chooses_first reading ≡ true → choice ≡ first_home 0 (old.places class))
 
 -- where bytes are staged: from `at` of a page. `added` is the page, where it is the chunk's next one
 pub record Staged : Type 0 where
@@ -36,7 +42,8 @@ pub record Staged : Type 0 where
 abbrev pub fresh_page : Pool → ℕ → Page
 fresh_page pool len = record { block = pool.next; len = max len PAGE_BYTES }
 
--- the page where bytes are staged: the open chunk's newest, the one with this place among those that came back, or a new one
+-- the page where bytes are staged: the open chunk's newest, the one with this place among those that came back, or a
+-- new one
 pub data PageChoice : Type 0 where
   Newest_page : PageChoice
   Spare_page : (place : ℕ) → PageChoice
@@ -49,8 +56,10 @@ newest_fits len (Some n) = nat_le (n.used + len) n.page.len
 
 pub data Stages : PageChoice → ℕ → Staged → Pool → Pool → Type 0 where
   On_newest : (len : ℕ) (pool : Pool) (n : Newest) → (pool.newest ≡ Some n) → (newest_fits len (Some n) ≡ true)
-      → Stages Newest_page len (record { block = n.page.block; at = n.used; added = [] }) pool (record pool { newest = Some (record n { used = n.used + len }) })
-  On_spare : (len : ℕ) (pool : Pool) (front : List Page) (p : Page) (back : List Page) → (pool.spare ≡ front ++ p ∷ back) → (nat_le len p.len ≡ true)
+      → Stages Newest_page len (record { block = n.page.block; at = n.used; added = [] }) pool
+      (record pool { newest = Some (record n { used = n.used + len }) })
+  On_spare : (len : ℕ) (pool : Pool) (front : List Page) (p : Page) (back : List Page)
+      → (pool.spare ≡ front ++ p ∷ back) → (nat_le len p.len ≡ true)
       → (newest_fits len pool.newest ≡ false)
       → Stages (Spare_page (length front)) len (record { block = p.block; at = 0; added = p ∷ [] }) pool
       (record pool { spare = front ++ back; newest = Some (record { page = p; used = len }) })
@@ -58,7 +67,8 @@ pub data Stages : PageChoice → ℕ → Staged → Pool → Pool → Type 0 whe
       → Stages New_page len (record { block = pool.next; at = 0; added = fresh_page pool len ∷ [] }) pool
       (record pool { newest = Some (record { page = fresh_page pool len; used = len }); next = suc pool.next })
 
--- the choice of the stepped core where the newest page is too short: the first that came back and is long enough, else a new one
+-- the choice of the stepped core where the newest page is too short: the first that came back and is long enough,
+-- else a new one
 abbrev pub first_long : ℕ → ℕ → List Page → PageChoice
 first_long at len [] = New_page
 first_long at len (p ∷ ps) = cond (nat_le len p.len) (Spare_page at) (first_long (suc at) len ps)

@@ -1,4 +1,5 @@
--- The readings of a step: any choices, the choices of the core that is stepped, and the parts in threads, which have no places to count.
+-- The readings of a step: any choices, the choices of the core that is stepped, and the parts in threads, which have
+-- no places to count.
 use Rattle.std.specs.Prelude.{ℕ, ◌+◌, Bool, true, false, nat_lt, length}
 use Rattle.core_model.specs.CoreState.{Core, taken_count, handed_count}
 

@@ -1,6 +1,7 @@
--- What the core plays, as the checks of the calls leave it, and what it means in order. A buffer is named by the call that
--- creates it, so that an id that is used again names another one.
-use Rattle.std.specs.Prelude.{ℕ, ◌+◌, ◌-◌, Bool, true, false, cond, ◌==◌, List, [], ◌∷◌, ◌++◌, length, replicate, Option, Some, None}
+-- What the core plays, as the checks of the calls leave it, and what it means in order. A buffer is named by the call
+-- that creates it, so that an id that is used again names another one.
+use Rattle.std.specs.Prelude.{ℕ, ◌+◌, ◌-◌, Bool, true, false, cond, ◌==◌, List, [], ◌∷◌, ◌++◌, length, replicate}
+use Rattle.std.specs.Prelude.{Option, Some, None}
 use Rattle.dx_types.specs.declared.range.Range.{Range}
 use Rattle.vk_types.specs.declared.command.Work.{Work}
 use Rattle.vk_types.specs.declared.command.Cond.{Cond}
@@ -24,7 +25,8 @@ pub data Play : Type 0 where
   Create_shader : Play
   -- a Begin or an End of a query that counts invocations
   Mark_query : (query : ℕ) (begins : Bool) → Play
-  -- what changes bindings or other objects alone, and what a predicate of a query skips, which still uses what it would bind
+  -- what changes bindings or other objects alone, and what a predicate of a query skips, which still uses what it
+  -- would bind
   Set_state : Play
 
 -- what a call asks for
@@ -44,8 +46,8 @@ pub data Turn : Type 0 where
   Flushed : (call : ℕ) → Turn
   -- a MapRead or a GetData, with its last use, and whether it may be answered as pending
   Asked : (call : ℕ) (ask : Ask) (used : Option ℕ) (may_pend : Bool) → Turn
-  -- an item: the call, the call whose body it plays, whether it is the call's last one, what it does, and which ranges of
-  -- buffers it binds
+  -- an item: the call, the call whose body it plays, whether it is the call's last one, what it does, and which
+  -- ranges of buffers it binds
   Item : (call item : ℕ) (ends : Bool) (play : Play) (bound : List Range) → Turn
 
 -- a turn that adds no entry and is not answered
@@ -67,8 +69,8 @@ pub record Script : Type 0 where
 
 -- one after another ---------------------------------------------------------------------------------------------
 
--- the bytes of each buffer, which buffers live, the invocations so far, and for each query those before its last Begin and
--- the count that its last End left
+-- the bytes of each buffer, which buffers live, the invocations so far, and for each query those before its last
+-- Begin and the count that its last End left
 pub record InOrder : Type 0 where
   pub bytes : ℕ → ℕ → ℕ
   pub live : ℕ → Bool
@@ -96,12 +98,22 @@ staged_in_order bytes (Some target) skip memory = cond (is_skipped skip memory) 
 
 abbrev pub play_in_order : Meaning → Script → Play → InOrder → InOrder
 play_in_order meaning script (Create buffer bytes) s =
-    record s { bytes = put_bytes (range buffer 0 (script.size buffer)) bytes s.bytes; live = updated buffer true s.live }
+    record s {
+      bytes = put_bytes (range buffer 0 (script.size buffer)) bytes s.bytes;
+      live =
+          updated buffer true s.live;
+    }
 play_in_order meaning script (Discard buffer from bytes) s =
-    record s { bytes = put_bytes (range buffer 0 (script.size buffer)) (padded from bytes (script.size buffer)) s.bytes }
+    record s {
+      bytes = put_bytes (range buffer 0 (script.size buffer)) (padded from bytes (script.size buffer))
+          s.bytes;
+    }
 play_in_order meaning script (No_overwrite buffer from bytes) s =
     record s { bytes = put_bytes (range buffer from (from + length bytes)) bytes s.bytes }
-play_in_order meaning script (Stage bytes target skip) s = record s { bytes = staged_in_order bytes target skip s.bytes }
+play_in_order meaning script (Stage bytes target skip) s = record s {
+  bytes =
+      staged_in_order bytes target skip s.bytes;
+}
 play_in_order meaning script (Command work skip) s = record s {
   bytes = cond (is_skipped skip s.bytes) s.bytes (work_effect meaning work s.bytes);
   total = s.total + cond (is_skipped skip s.bytes) 0 (work_count meaning work s.bytes);
@@ -109,7 +121,10 @@ play_in_order meaning script (Command work skip) s = record s {
 play_in_order meaning script (Destroy buffer) s = record s { live = updated buffer false s.live }
 play_in_order meaning script Create_shader s = s
 play_in_order meaning script (Mark_query query true) s = record s { begun = updated query s.total s.begun }
-play_in_order meaning script (Mark_query query false) s = record s { count = updated query (s.total - s.begun query) s.count }
+play_in_order meaning script (Mark_query query false) s = record s {
+  count =
+      updated query (s.total - s.begun query) s.count;
+}
 play_in_order meaning script Set_state s = s
 
 abbrev pub turn_in_order : Meaning → Script → Turn → InOrder → InOrder

@@ -6,7 +6,8 @@ use Rattle.vk_types.specs.Effects.{Act, Host_write, Device, Host_read, act_touch
 use Rattle.vk_types.specs.Entries.{Entry}
 use Rattle.core_model.specs.Script.{Script, InOrder}
 use Rattle.core_model.specs.Renaming.{BlockMap}
-use Rattle.core_model.specs.CoreState.{Owner, Unmade, Home, Returning, Spare, Live, Retired, Paged, Dropped, Core, flat, of_messages, of_running, waiting}
+use Rattle.core_model.specs.CoreState.{Owner, Unmade, Home, Returning, Spare, Live, Retired, Paged, Dropped, Core}
+use Rattle.core_model.specs.CoreState.{flat, of_messages, of_running, waiting}
 
 -- each live buffer has a block of its own, and the block begins with the buffer's bytes
 pub record Stands (script : Script) (memory : Memory) (blocks : BlockMap) (state : InOrder) : Type 0 where

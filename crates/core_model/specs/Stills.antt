@@ -40,4 +40,5 @@ SaidAfter script earlier End_said = Unit {0}
 -- so each that is among these, which were said behind those
 abbrev pub StillsAreRight : Script → List Said → List Said → Type 0
 StillsAreRight script earlier [] = Unit {0}
-StillsAreRight script earlier (said ∷ saids) = SaidAfter script earlier said × StillsAreRight script (earlier ++ said ∷ []) saids
+StillsAreRight script earlier (said ∷ saids) = SaidAfter script earlier said
+    × StillsAreRight script (earlier ++ said ∷ []) saids

@@ -1,5 +1,6 @@
 -- When a message may come after those before it: chunks, batches, submissions, completions and posts.
-use Rattle.std.specs.Prelude.{◌≡◌, ℕ, zero, suc, ◌+◌, ◌-◌, ◌*◌, ◌<◌, ◌≤◌, Bool, true, false, cond, ◌&&◌, ◌==◌, nat_lt, nat_le, List, [], ◌∷◌, ◌++◌, length, map, Option, Some, None, ◌⊎◌}
+use Rattle.std.specs.Prelude.{◌≡◌, ℕ, zero, suc, ◌+◌, ◌-◌, ◌*◌, ◌<◌, ◌≤◌, Bool, true, false, cond, ◌&&◌, ◌==◌, nat_lt}
+use Rattle.std.specs.Prelude.{nat_le, List, [], ◌∷◌, ◌++◌, length, map, Option, Some, None, ◌⊎◌}
 use Rattle.std.specs.List.{list_any, AllByRecursion}
 use Rattle.dx_types.specs.declared.range.Range.{Range}
 use Rattle.dx_types.specs.declared.range.Span.{Span}
@@ -18,7 +19,9 @@ use Rattle.vk_types.specs.declared.message.Post.{Post}
 use Rattle.base_lemmas.specs.Lists.{Pairwise, numbers_from}
 use Rattle.vk_types.specs.Memory.{meets}
 use Rattle.vk_types.specs.Effects.{Meaning}
-use Rattle.core_model.specs.Script.{Play, Create, Discard, No_overwrite, Stage, Command, Destroy, Create_shader, Mark_query, Set_state, Turn, Refused, Passed, Flushed, Asked, Item, Script, InOrder, at_start, turn_in_order, updated}
+use Rattle.core_model.specs.Script.{Play, Create, Discard, No_overwrite, Stage, Command, Destroy, Create_shader}
+use Rattle.core_model.specs.Script.{Mark_query, Set_state, Turn, Refused, Passed, Flushed, Asked, Item, Script}
+use Rattle.core_model.specs.Script.{InOrder, at_start, turn_in_order, updated}
 use Rattle.core_model.specs.Chunking.{ItemNo, items, chunks, chunk_turns, upto, joined, after_chunk}
 use Rattle.core_model.specs.Renaming.{BlockMap}
 use Rattle.core_model.specs.CoreState.{has_class, somes}
@@ -42,7 +45,7 @@ completion_head m = record { number = m.number; upto = m.upto; placed = m.placed
 abbrev pub post_head : Post → Head
 post_head m = record { number = m.number; upto = m.upto; placed = m.placed.items }
 
--- Numbers and items -------------------------------------------------------------------------------------------------------
+-- Numbers and items -------------------------------------------------------------------------------------------------
 
 abbrev pub item_of : Placed → ItemNo
 item_of p = record { call = p.call; item = p.item }
@@ -54,7 +57,7 @@ pub record IsOfChunk (script : Script) (n : ℕ) (m : Head) : Type 0 where
   pub upto : m.upto ≡ upto script n
   pub items : map item_of m.placed ≡ items (chunk_turns script n)
 
--- Blocks --------------------------------------------------------------------------------------------------------------------
+-- Blocks ------------------------------------------------------------------------------------------------------------
 
 -- the block is of the buffer's class, or of none
 abbrev pub IsOfClass : Option ℕ → ℕ → Type 0
@@ -73,12 +76,16 @@ PlacesNothing p = (p.block ≡ None) × (p.mark ≡ None) × (p.staged ≡ None)
 -- a play with its place: the block that it takes is the buffer's from now on, the block that it marks was the buffer's
 abbrev pub PlacesPlay : Script → Play → Placed → BlockMap → BlockMap → Type 0
 PlacesPlay script (Create buffer bytes) p old new =
-    (b : ℕ) × (p.block ≡ Some b) × (p.mark ≡ None) × (p.staged ≡ None) × IsOfClass (script.class buffer) b × (new ≡ updated buffer (Some b) old)
+    (b : ℕ) × (p.block ≡ Some b) × (p.mark ≡ None) × (p.staged ≡ None) × IsOfClass (script.class buffer) b
+    × (new ≡ updated buffer (Some b) old)
 PlacesPlay script (Discard buffer from bytes) p old new =
-    (b : ℕ) × (p.block ≡ Some b) × (p.mark ≡ old buffer) × (p.staged ≡ None) × IsOfClass (script.class buffer) b × (new ≡ updated buffer (Some b) old)
-PlacesPlay script (Destroy buffer) p old new = (p.block ≡ None) × (p.mark ≡ old buffer) × (p.staged ≡ None) × (new ≡ updated buffer None old)
+    (b : ℕ) × (p.block ≡ Some b) × (p.mark ≡ old buffer) × (p.staged ≡ None) × IsOfClass (script.class buffer) b
+    × (new ≡ updated buffer (Some b) old)
+PlacesPlay script (Destroy buffer) p old new = (p.block ≡ None) × (p.mark ≡ old buffer) × (p.staged ≡ None)
+    × (new ≡ updated buffer None old)
 PlacesPlay script (No_overwrite buffer from bytes) p old new = PlacesNothing p × (new ≡ old)
-PlacesPlay script (Stage bytes target skip) p old new = (p.block ≡ None) × (p.mark ≡ None) × IsStagedRange bytes p.staged × (new ≡ old)
+PlacesPlay script (Stage bytes target skip) p old new = (p.block ≡ None) × (p.mark ≡ None)
+    × IsStagedRange bytes p.staged × (new ≡ old)
 PlacesPlay script (Command w skip) p old new = PlacesNothing p × (new ≡ old)
 PlacesPlay script Create_shader p old new = PlacesNothing p × (new ≡ old)
 PlacesPlay script (Mark_query query begins) p old new = PlacesNothing p × (new ≡ old)
@@ -92,7 +99,8 @@ GivesBlocks script (Passed call ∷ ts) ps blocks = GivesBlocks script ts ps blo
 GivesBlocks script (Flushed call ∷ ts) ps blocks = GivesBlocks script ts ps blocks
 GivesBlocks script (Asked call ask used may_pend ∷ ts) ps blocks = GivesBlocks script ts ps blocks
 GivesBlocks script (Item call item ends play bound ∷ ts) ps blocks =
-    (p : Placed) × (others : List Placed) × (ps ≡ p ∷ others) × (after : BlockMap) × PlacesPlay script play p blocks after × GivesBlocks script ts others after
+    (p : Placed) × (others : List Placed) × (ps ≡ p ∷ others) × (after : BlockMap)
+    × PlacesPlay script play p blocks after × GivesBlocks script ts others after
 
 -- the turns of chunks 1 to n
 abbrev pub turns_upto : Script → ℕ → List Turn
@@ -115,8 +123,8 @@ is_staged_in b (Some r) = r.block == b
 abbrev pub stages_in : ℕ → List Placed → Bool
 stages_in b ps = list_any (λ p. is_staged_in b p.staged) ps
 
--- a block that an item takes was never placed, by an item that took it or staged bytes in it, or an earlier message marked it
--- and no item took it since
+-- a block that an item takes was never placed, by an item that took it or staged bytes in it, or an earlier message
+-- marked it and no item took it since
 abbrev pub MayTake : List (List Placed) → List Placed → ℕ → Type 0
 MayTake earlier here b =
     ((takes b (all_places earlier ++ here) ≡ false) × (stages_in b (all_places earlier ++ here) ≡ false))
@@ -125,9 +133,10 @@ MayTake earlier here b =
 
 abbrev pub TakesLawfully : List (List Placed) → List Placed → Type 0
 TakesLawfully earlier here =
-    (front : List Placed) (p : Placed) (back : List Placed) (b : ℕ) → here ≡ front ++ p ∷ back → p.block ≡ Some b → MayTake earlier front b
+    (front : List Placed) (p : Placed) (back : List Placed) (b : ℕ) → here ≡ front ++ p ∷ back → p.block ≡ Some b
+    → MayTake earlier front b
 
--- Pages ----------------------------------------------------------------------------------------------------------------------
+-- Pages -------------------------------------------------------------------------------------------------------------
 
 abbrev pub staged_range_of : Option Range → List Range
 staged_range_of None = []
@@ -150,9 +159,10 @@ once seen (n ∷ ns) = cond (is_among n seen) (once seen ns) (n ∷ once (n ∷ 
 -- the pages are those that the staged ranges name, each long enough
 pub record HasPages (pages : List Block) (here : List Placed) : Type 0 where
   pub numbers : map (λ p. p.number) pages ≡ once [] (map (λ r. r.block) (staged_ranges here))
-  pub long : AllByRecursion (λ p. AllByRecursion (λ r. p.number ≡ r.block → r.to ≤ length (bytes_of p)) (staged_ranges here)) pages
+  pub long : AllByRecursion (λ p. AllByRecursion (λ r. p.number ≡ r.block
+      → r.to ≤ length (bytes_of p)) (staged_ranges here)) pages
 
--- The blocks of a chunk, batch or submission -----------------------------------------------------------------------------
+-- The blocks of a chunk, batch or submission ------------------------------------------------------------------------
 
 -- the lengths of the blocks that the items take
 abbrev pub lengths_of : Script → Turn → List ℕ
@@ -178,7 +188,7 @@ pub record HasBlocks (script : Script) (n : ℕ) (blocks : List Block) (here : L
   pub numbers : map (λ b. b.number) blocks ≡ somes (map (λ p. p.block) here)
   pub lengths : map (λ b. length (bytes_of b)) blocks ≡ taken_lengths script (chunk_turns script n)
 
--- What a batch does --------------------------------------------------------------------------------------------------------
+-- What a batch does -------------------------------------------------------------------------------------------------
 
 -- the parts of the log that these spans name have these bytes
 abbrev pub writes_as : (Span → List ℕ) → HostPart → Written
@@ -192,7 +202,7 @@ pub record DoesChunk (script : Script) (part : Span → List ℕ) (places : List
   pub staging : m.staging.items ≡ (made script places).staging
   pub queries : m.queries.items ≡ (made script places).queries
 
--- What a completion or a post has ----------------------------------------------------------------------------------------
+-- What a completion or a post has -----------------------------------------------------------------------------------
 
 abbrev pub only_class : List ℕ → List ℕ
 only_class [] = []
@@ -235,13 +245,15 @@ end_of low high (Item call item ends Set_state bound) s = []
 abbrev pub end_values : Meaning → Script → ℕ → ℕ → List Turn → InOrder → List QueryValue
 end_values meaning script low high [] s = []
 end_values meaning script low high (t ∷ ts) s =
-    end_of low high t (turn_in_order meaning script t s) ++ end_values meaning script low high ts (turn_in_order meaning script t s)
+    end_of low high t (turn_in_order meaning script t s) ++ end_values meaning script low high ts
+    (turn_in_order meaning script t s)
 
 abbrev pub values_after : Meaning → Script → ℕ → List QueryValue
 values_after meaning script zero = []
-values_after meaning script (suc n) = end_values meaning script (upto script n) (upto script (suc n)) (turns_upto script (suc n)) at_start
+values_after meaning script (suc n) = end_values meaning script (upto script n) (upto script (suc n))
+    (turns_upto script (suc n)) at_start
 
--- The succession -------------------------------------------------------------------------------------------------------------
+-- The succession ----------------------------------------------------------------------------------------------------
 
 -- what the log gives: the script, what its shaders mean, and its bytes
 pub record Log : Type 0 where
@@ -252,7 +264,8 @@ pub record Log : Type 0 where
 -- the points that speak of every kind
 pub record FollowsHead (log : Log) (before : List Head) (m : Head) : Type 0 where
   pub of_chunk : IsOfChunk log.script (suc (length before)) m
-  pub gives_blocks : GivesBlocks log.script (turns_upto log.script (suc (length before))) (all_places (map (λ h. h.placed) before) ++ m.placed) (λ r. None)
+  pub gives_blocks : GivesBlocks log.script (turns_upto log.script (suc (length before)))
+      (all_places (map (λ h. h.placed) before) ++ m.placed) (λ r. None)
   pub takes_lawfully : TakesLawfully (map (λ h. h.placed) before) m.placed
   pub stages_apart : StagesApart (map (λ h. h.placed) before) m.placed
 
@@ -290,14 +303,16 @@ pub record CompletionBy (log : Log) (front : List Head) (m : Completion) : Type 
   pub pages : HasPages m.pages.items m.placed.items
   pub ops : m.ops.items ≡ batch_ops (made_by log front (completion_head m)) m.number
   pub homes : HasHomes (suc (length front)) m.homes.items m.placed.items
-  pub snaps : AllByRecursion (IsSnap log.meaning log.script (suc (length front)) (made_by log front (completion_head m)).blocks) m.snaps.items
+  pub snaps : AllByRecursion (IsSnap log.meaning log.script (suc (length front))
+      (made_by log front (completion_head m)).blocks) m.snaps.items
   pub values : m.values.items ≡ values_after log.meaning log.script (suc (length front))
 
 pub record PostBy (log : Log) (front : List Head) (m : Post) : Type 0 where
   pub head : FollowsHead log front (post_head m)
   pub pages : HasPages m.pages.items m.placed.items
   pub ops : m.ops.items ≡ batch_ops (made_by log front (post_head m)) m.number
-  pub snaps : AllByRecursion (IsSnap log.meaning log.script (suc (length front)) (made_by log front (post_head m)).blocks) m.snaps.items
+  pub snaps : AllByRecursion (IsSnap log.meaning log.script (suc (length front))
+      (made_by log front (post_head m)).blocks) m.snaps.items
   pub values : m.values.items ≡ values_after log.meaning log.script (suc (length front))
 
 -- A message comes after those of its own kind before it

@@ -27,9 +27,14 @@ with_post m ms old = record old {
 -- the next n posts are taken, one after another
 abbrev pub TakesPosts : ℕ → Core → Core → Type 0
 TakesPosts zero old new = new ≡ old
-TakesPosts (suc n) old new = (m : Message) × (ms : List Message) × (old.posts ≡ m ∷ ms) × TakesPosts n (with_post m ms old) new
+TakesPosts (suc n) old new = (m : Message) × (ms : List Message) × (old.posts ≡ m ∷ ms)
+    × TakesPosts n (with_post m ms old) new
 
 -- a fence of the newest post stands in the listing, if one was taken
 abbrev pub with_fence : ℕ → Core → Core
 with_fence zero core = core
-with_fence (suc n) core = record core { listing = core.listing ++ op.Fence (taken_count core) ∷ []; fence = max core.fence (taken_count core) }
+with_fence (suc n) core = record core {
+  listing = core.listing ++ op.Fence (taken_count core) ∷ [];
+  fence =
+      max core.fence (taken_count core);
+}

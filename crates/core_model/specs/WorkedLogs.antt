@@ -1,5 +1,5 @@
--- Two small logs with what their runs give: an update that is copied and read, and five buffers whose commands may be run in
--- another order.
+-- Two small logs with what their runs give: an update that is copied and read, and five buffers whose commands may be
+-- run in another order.
 use Rattle.std.specs.Prelude.{◌≡◌, ℕ, false, true, ◌==◌, List, [], ◌∷◌, map, Some, None}
 use Rattle.dx_types.specs.declared.range.Range.{Range}
 use Rattle.vk_types.specs.declared.command.Work.{Work}
@@ -33,7 +33,8 @@ buffer call bytes = Item call call true (Create call bytes) []
 
 -- one buffer is copied to another
 abbrev pub copy : ℕ → ℕ → ℕ → Turn
-copy call target source = Item call call true (Command (work.Copy (all_of source) (all_of target)) None) (all_of source ∷ all_of target ∷ [])
+copy call target source = Item call call true (Command (work.Copy (all_of source) (all_of target)) None)
+    (all_of source ∷ all_of target ∷ [])
 
 -- a buffer is cleared to a word
 abbrev pub clear : ℕ → ℕ → ℕ → Turn
@@ -54,7 +55,8 @@ behind_transfers first second = op.Barrier (record {
 
 -- the barrier to the host
 abbrev pub to_host : ℕ → VkOp
-to_host first = op.Barrier (record { source = all_device write_access; dest = host_reads; first = first; second = None })
+to_host first =
+    op.Barrier (record { source = all_device write_access; dest = host_reads; first = first; second = None })
 
 -- An update, a copy, a read ------------------------------------------------------------------------------------------
 
@@ -153,8 +155,8 @@ act_number (Host_read source) = 0
 abbrev pub run_order : Core → List ℕ
 run_order core = map (λ x. act_number x.act) core.ran
 
--- its run by that schedule gives the bytes that the first buffer had, and this listing, though the device runs the commands
--- in another order
+-- its run by that schedule gives the bytes that the first buffer had, and this listing, though the device runs the
+-- commands in another order
 abbrev pub PlaysFiveBuffers : Type 0
 PlaysFiveBuffers =
     (core : Core) × IsRun no_shaders five_buffers five_buffers_steps core

@@ -14,7 +14,11 @@ use Rattle.core_model.specs.WorkedLogs.{command, run_order}
 
 -- each group of a dispatch has one invocation, which writes nothing
 abbrev pub count_groups : Meaning
-count_groups = record { words = λ shader groups slots u. []; count = λ shader counts. number_at counts 0 * (number_at counts 1 * number_at counts 2) }
+count_groups = record {
+  words = λ shader groups slots u. [];
+  count =
+      λ shader counts. number_at counts 0 * (number_at counts 1 * number_at counts 2);
+}
 
 -- so many groups of the shader that call 1 creates
 abbrev pub dispatched : ℕ → Work

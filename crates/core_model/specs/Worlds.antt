@@ -14,7 +14,11 @@ abbrev pub empty : World
 empty = record { memory = zeros; counts = λ n. 0 }
 
 abbrev pub world_step : Meaning → Entry → World → World
-world_step meaning x w = record { memory = act_effect meaning x.act w.memory; counts = counted meaning x.act w.memory w.counts }
+world_step meaning x w = record {
+  memory = act_effect meaning x.act w.memory;
+  counts =
+      counted meaning x.act w.memory w.counts;
+}
 
 abbrev pub run_world : Meaning → List Entry → World → World
 run_world meaning [] w = w

@@ -1,5 +1,5 @@
-//! The core as a machine: how the items of a log are cut into chunks, the states and steps of its six parts, and what holds
-//! in every run. The functions here are empty: each is named for a law, which its clauses state.
+//! The core as a machine: how the items of a log are cut into chunks, the states and steps of its six parts, and what
+//! holds in every run. The functions here are empty: each is named for a law, which its clauses state.
 #![tactic(auto)]
 
 mod block_laws;
@@ -24,6 +24,7 @@ pub use step_laws::{
     steps_keep_the_queries,
 };
 pub use succession_laws::{
-    batches_are_ordered, messages_use_their_blocks, taken_blocks_are_apart, used_blocks_are_held,
+    batches_are_ordered, batches_keep_standing, messages_use_their_blocks, parts_keep_clear,
+    taken_blocks_are_apart, used_blocks_are_held,
 };
 pub use worked::worked_logs;

@@ -4,13 +4,12 @@ ghost use Rattle.vk_types.specs.Memory.{zeros};
 ghost use Rattle.core_model.specs.Chunking.{chunks, after_chunk};
 ghost use Rattle.core_model.specs.CoreState.{Message, Core, start, flat, listed, Segment, of_messages};
 ghost use Rattle.core_model.specs.Readings.{Reading};
-ghost use Rattle.core_model.specs.CoreStep.{Event, Chain};
 ghost use Rattle.core_model.specs.HostBytes.{bytes_of};
 ghost use Rattle.core_model.specs.Script.{Script};
 ghost use Rattle.vk_types.specs.Effects.{Meaning};
+ghost use Rattle.core_model.specs.Spine.{Succeeds};
 ghost use Rattle.core_model.specs.Succession.{Log, ChunkView, ChunkBy, BatchBy, SubmissionBy, CompletionBy, PostBy};
 ghost use Rattle.core_model.specs.Stands.{Stands};
-ghost use Rattle.core_model.specs.Lawful.{IsLawful};
 ghost use Rattle.core_model.specs.Invariant.{handed};
 ghost use Rattle.vk_types.specs.declared.message.Batch.{Batch};
 ghost use Rattle.vk_types.specs.declared.message.Submission.{Submission};
@@ -20,59 +19,62 @@ ghost use Rattle.core_model.specs.Batching.{made, batch_ops};
 ghost use Rattle.core_model.specs.Batches.{batches};
 ghost use Rattle.core_model.specs.Filling.{AreFilled};
 ghost use Rattle.core_model.specs.Messages.{heads, IsChunk, IsBatch, IsCompletion, IsPost};
+ghost use Rattle.core_model.specs.Reached.{IsReached};
 
-/// The law of succession, of a lawful script, in every state that steps reach from the start, in each reading and by any choices.
-/// A message that stands for a chunk which was handed over may stand behind messages with the heads of the chunks before it, as
-/// chunk, batch and submission, and, where the chunk is one of a completion or of a post that was not taken, as completion and
-/// post: whichever ready commands were run, and however far each chunk came. What the host writes for a chunk are the parts that
-/// its items have in the log, in zeros; the batches of the listing are those that are made of the chunks, and no other; and after
-/// each chunk the blocks that its items gave hold, as the listing leaves them, what the log's chunks so far leave in order.
+/// The law of succession, of a lawful script, in every state that steps reach from the start, in each reading and by
+/// any choices. The heads of the chunks that were handed over succeed each other. A message that stands for a chunk
+/// which was handed over may stand behind messages with the heads of the chunks before it, as chunk, batch and
+/// submission, and, where the chunk is one of a completion or of a post that was not taken, as completion and post:
+/// whichever ready commands were run, and however far each chunk came. What the host writes for a chunk are the parts
+/// that its items have in the log, in zeros; the batches of the listing are those that are made of the chunks, and no
+/// other; and after each chunk the blocks that its items gave hold, as the listing leaves them, what the log's chunks
+/// so far leave in order.
 pub fn messages_succeed()
-    ensures chunks { (log : Log) (reading : Reading) → IsLawful log.meaning log.script
-        → (events : List Event) (core : Core) → Chain log.meaning reading log.script (start log.script) events core
+    ensures heads { (log : Log) (reading : Reading) (core : Core) → IsReached log.meaning reading log.script core
+        → Succeeds log (heads (handed core)) }
+    ensures chunks { (log : Log) (reading : Reading) (core : Core) → IsReached log.meaning reading log.script core
         → (front : List Segment) (s : Segment) (back : List Segment) → handed core ≡ front ++ s ∷ back
         → (m : ChunkView) → IsChunk log.script front s m → ChunkBy log (heads front) m }
-    ensures batches { (log : Log) (reading : Reading) → IsLawful log.meaning log.script
-        → (events : List Event) (core : Core) → Chain log.meaning reading log.script (start log.script) events core
+    ensures batches { (log : Log) (reading : Reading) (core : Core) → IsReached log.meaning reading log.script core
         → (front : List Segment) (s : Segment) (back : List Segment) → handed core ≡ front ++ s ∷ back
         → (m : Batch) → IsBatch log core.listing front s m → BatchBy log (heads front) m }
-    ensures submissions { (log : Log) (reading : Reading) → IsLawful log.meaning log.script
-        → (events : List Event) (core : Core) → Chain log.meaning reading log.script (start log.script) events core
+    ensures submissions { (log : Log) (reading : Reading) (core : Core) → IsReached log.meaning reading log.script core
         → (front : List Segment) (s : Segment) (back : List Segment) → handed core ≡ front ++ s ∷ back
         → (m : Submission) → IsBatch log core.listing front s m.batch → SubmissionBy log (heads front) m }
-    ensures completions { (log : Log) (reading : Reading) → IsLawful log.meaning log.script
-        → (events : List Event) (core : Core) → Chain log.meaning reading log.script (start log.script) events core
-        → (earlier : List Message) (m : Message) (others : List Message) → core.posts ++ core.completions ≡ earlier ++ m ∷ others
-        → (c : Completion) → IsCompletion core.listing (core.taken ++ of_messages earlier) m c → CompletionBy log (heads (core.taken ++ of_messages earlier)) c }
-    ensures posts { (log : Log) (reading : Reading) → IsLawful log.meaning log.script
-        → (events : List Event) (core : Core) → Chain log.meaning reading log.script (start log.script) events core
-        → (earlier : List Message) (m : Message) (others : List Message) → core.posts ++ core.completions ≡ earlier ++ m ∷ others
-        → (p : Post) → IsPost core.listing (core.taken ++ of_messages earlier) m p → PostBy log (heads (core.taken ++ of_messages earlier)) p }
-    ensures filled { (log : Log) (reading : Reading) → IsLawful log.meaning log.script
-        → (events : List Event) (core : Core) → Chain log.meaning reading log.script (start log.script) events core
+    ensures completions { (log : Log) (reading : Reading) (core : Core) → IsReached log.meaning reading log.script core
+        → (earlier : List Message) (m : Message) (others : List Message)
+        → core.posts ++ core.completions ≡ earlier ++ m ∷ others
+        → (c : Completion) → IsCompletion core.listing (core.taken ++ of_messages earlier) m c
+        → CompletionBy log (heads (core.taken ++ of_messages earlier)) c }
+    ensures posts { (log : Log) (reading : Reading) (core : Core) → IsReached log.meaning reading log.script core
+        → (earlier : List Message) (m : Message) (others : List Message)
+        → core.posts ++ core.completions ≡ earlier ++ m ∷ others
+        → (p : Post) → IsPost core.listing (core.taken ++ of_messages earlier) m p
+        → PostBy log (heads (core.taken ++ of_messages earlier)) p }
+    ensures filled { (log : Log) (reading : Reading) (core : Core) → IsReached log.meaning reading log.script core
         → (front : List Segment) (s : Segment) (back : List Segment) → handed core ≡ front ++ s ∷ back
         → AreFilled (made log.script (map (λ s. s.placed) (front ++ s ∷ []))).writes s.writes }
-    ensures listed { (log : Log) (reading : Reading) → IsLawful log.meaning log.script
-        → (events : List Event) (core : Core) → Chain log.meaning reading log.script (start log.script) events core
+    ensures listed { (log : Log) (reading : Reading) (core : Core) → IsReached log.meaning reading log.script core
         → (front : List Segment) (s : Segment) (back : List Segment) → handed core ≡ front ++ s ∷ back
-        → slice_get (batches core.listing) (length front) ≡ Some (batch_ops (made log.script (map (λ s. s.placed) (front ++ s ∷ []))) (suc (length front))) }
-    ensures count { (log : Log) (reading : Reading) → IsLawful log.meaning log.script
-        → (events : List Event) (core : Core) → Chain log.meaning reading log.script (start log.script) events core
+        → slice_get (batches core.listing) (length front) ≡ Some
+        (batch_ops (made log.script (map (λ s. s.placed) (front ++ s ∷ []))) (suc (length front))) }
+    ensures count { (log : Log) (reading : Reading) (core : Core) → IsReached log.meaning reading log.script core
         → length (batches core.listing) ≡ length (handed core) }
-    ensures stands { (log : Log) (reading : Reading) → IsLawful log.meaning log.script
-        → (events : List Event) (core : Core) → Chain log.meaning reading log.script (start log.script) events core
+    ensures stands { (log : Log) (reading : Reading) (core : Core) → IsReached log.meaning reading log.script core
         → (front : List Segment) (s : Segment) (back : List Segment) → handed core ≡ front ++ s ∷ back
-        → Stands log.script (run_entries log.meaning (flat (front ++ s ∷ [])) zeros) (made log.script (map (λ s. s.placed) (front ++ s ∷ []))).blocks
+        → Stands log.script (run_entries log.meaning (flat (front ++ s ∷ [])) zeros)
+        (made log.script (map (λ s. s.placed) (front ++ s ∷ []))).blocks
         (after_chunk log.meaning log.script (suc (length front))) }
 {}
 
-/// What the host writes is a function of the script alone: in every state that steps reach, in each reading and by any choices,
-/// the byte lists of the listing's host writes are those of the items so far, in order, and at the end those of all items.
+/// What the host writes is a function of the script alone: in every state that steps reach, in each reading and by
+/// any choices, the byte lists of the listing's host writes are those of the items so far, in order, and at the end
+/// those of all items.
 pub fn host_writes_are_the_items()
-    ensures so_far { (meaning : Meaning) (reading : Reading) (script : Script) → IsLawful meaning script
-        → (events : List Event) (core : Core) → Chain meaning reading script (start script) events core
+    ensures so_far { (meaning : Meaning) (reading : Reading) (script : Script) (core : Core)
+        → IsReached meaning reading script core
         → core.contents ≡ bytes_of script core.past }
-    ensures ended { (meaning : Meaning) (reading : Reading) (script : Script) → IsLawful meaning script
-        → (events : List Event) (core : Core) → Chain meaning reading script (start script) events core → core.ended ≡ true
+    ensures ended { (meaning : Meaning) (reading : Reading) (script : Script) (core : Core)
+        → IsReached meaning reading script core → core.ended ≡ true
         → core.contents ≡ bytes_of script script.turns }
 {}

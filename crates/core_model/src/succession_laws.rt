@@ -1,59 +1,122 @@
-ghost use Rattle.std.specs.Prelude.{◌≡◌, ℕ, suc, Bool, false, List, [], ◌∷◌, ◌++◌, length, Some};
+ghost use Rattle.std.specs.Prelude.{◌≡◌, ℕ, suc, ◌≤◌, Bool, true, false, List, [], ◌∷◌, ◌++◌, length, Some};
 ghost use Rattle.std.specs.List.{AllByRecursion};
-ghost use Rattle.vk_types.specs.Hazards.{touches};
+ghost use Rattle.vk_types.specs.Hazards.{touches, host_write_touch, lists_conflict};
+ghost use Rattle.vk_types.specs.Memory.{Memory};
 ghost use Rattle.vk_types.specs.declared.message.Placed.{Placed};
 ghost use Rattle.vk_types.specs.RunListing.{IsRunListing, SameOrder};
 ghost use Rattle.core_model.specs.Script.{Script};
 ghost use Rattle.core_model.specs.Batching.{made, batch_ops};
-ghost use Rattle.core_model.specs.Succession.{Head, Log, takes, all_places, staged_ranges, places_in};
+ghost use Rattle.core_model.specs.BatchActs.{batch_acts, run_acts};
+ghost use Rattle.core_model.specs.Chunking.{after_chunk};
+ghost use Rattle.core_model.specs.Stands.{Stands};
+ghost use Rattle.core_model.specs.Succession.{Head, Log, takes, stages_in, all_places, staged_ranges, places_in};
 ghost use Rattle.core_model.specs.Lawful.{IsLawful};
-ghost use Rattle.core_model.specs.Spine.{Succeeds, made_of, MayUse, IsHeldBy};
+ghost use Rattle.core_model.specs.Spine.{Succeeds, made_of, MayUse, IsHeldBy, holds_block};
 ghost use Rattle.core_model.specs.BatchOrder.{IsBatchListing, ops_of, staging_at};
 
-/// The law of the batches of messages, whatever places these have. Their operations, batch behind batch, are a listing that has
-/// the barriers which its hazards cause and no others, numbers its submits and keeps each batch whole; the barrier to the host
-/// goes by the staging buffers' blocks as the batch is made, and where these stay the same it is a run's listing. So of two
-/// commands the one is ordered before the other, by masks, exactly where more barriers before commands stand before the other.
+/// The law of the batches of messages, whatever places these have. Their operations, batch behind batch, are a
+/// listing that has the barriers which its hazards cause and no others, numbers its submits and keeps each batch
+/// whole; the barrier to the host goes by the staging buffers' blocks as the batch is made, and where these stay the
+/// same it is a run's listing. So of two commands the one is ordered before the other, by masks, exactly where more
+/// barriers before commands stand before the other.
 pub fn batches_are_ordered()
-    ensures listing { (script : Script) (places : List (List Placed)) → IsBatchListing (staging_at script places) (ops_of script places) }
+    ensures listing { (script : Script) (places : List (List Placed))
+        → IsBatchListing (staging_at script places) (ops_of script places) }
     ensures steady { (staging : ℕ → Bool) (script : Script) (places : List (List Placed))
         → ((k b : ℕ) → staging_at script places (suc k) b ≡ staging b) → IsRunListing staging (ops_of script places) }
-    ensures alike { (script : Script) (places : List (List Placed)) (contents : List (List ℕ)) → SameOrder contents (ops_of script places) }
+    ensures alike { (script : Script) (places : List (List Placed)) (contents : List (List ℕ))
+        → SameOrder contents (ops_of script places) }
     ensures one_more { (script : Script) (front : List (List Placed)) (here : List Placed)
         → ops_of script (front ++ here ∷ [])
         ≡ ops_of script front ++ batch_ops (made script (front ++ here ∷ [])) (suc (length front)) }
 {}
 
-/// The law of what a message uses, in every succession of a lawful script's messages. The commands that its items make, and
-/// the host writes, are on blocks that it took, on those where it staged bytes, and on blocks of buffers that lived before it;
-/// and the buffers that live behind it have such blocks.
+/// The law of what a message uses, in every succession of a lawful script's messages. The commands that its items
+/// make, and the host writes, are on blocks that it took, on those where it staged bytes, and on blocks of buffers
+/// that lived before it; and the buffers that live behind it have such blocks.
 pub fn messages_use_their_blocks()
-    ensures commands { (log : Log) → IsLawful log.meaning log.script → (front : List Head) (here : Head) → Succeeds log (front ++ here ∷ [])
-        → AllByRecursion (λ command. AllByRecursion (λ touch. MayUse log front here touch.range.block) (touches command)) (made_of log (front ++ here ∷ [])).listed }
-    ensures writes { (log : Log) → IsLawful log.meaning log.script → (front : List Head) (here : Head) → Succeeds log (front ++ here ∷ [])
-        → AllByRecursion (λ written. MayUse log front here written.range.block) (made_of log (front ++ here ∷ [])).writes }
-    ensures buffers { (log : Log) → IsLawful log.meaning log.script → (front : List Head) (here : Head) → Succeeds log (front ++ here ∷ [])
-        → (buffer block : ℕ) → (made_of log (front ++ here ∷ [])).blocks buffer ≡ Some block → MayUse log front here block }
+    ensures commands { (log : Log) → IsLawful log.meaning log.script → (front : List Head) (here : Head)
+        → Succeeds log (front ++ here ∷ [])
+        → AllByRecursion (λ command. AllByRecursion (λ touch. MayUse log front here touch.range.block)
+        (touches command)) (made_of log (front ++ here ∷ [])).listed }
+    ensures writes { (log : Log) → IsLawful log.meaning log.script → (front : List Head) (here : Head)
+        → Succeeds log (front ++ here ∷ [])
+        → AllByRecursion (λ written. MayUse log front here written.range.block)
+        (made_of log (front ++ here ∷ [])).writes }
+    ensures buffers { (log : Log) → IsLawful log.meaning log.script → (front : List Head) (here : Head)
+        → Succeeds log (front ++ here ∷ [])
+        → (buffer block : ℕ) → (made_of log (front ++ here ∷ [])).blocks buffer ≡ Some block
+        → MayUse log front here block }
 {}
 
-/// The law of what a message takes, in every succession. A block that one of its items takes is no buffer's that lived before
-/// it, and no earlier item of the message took it. And where it stages bytes, no item takes a block, of it or of those before it.
+/// The law of what a message takes, in every succession. A block that one of its items takes is no buffer's that
+/// lived before it, and no earlier item of the message took it. And where it stages bytes, no item takes a block, of
+/// it or of those before it.
 pub fn taken_blocks_are_apart()
     ensures strange { (log : Log) (front : List Head) (here : Head) → Succeeds log (front ++ here ∷ [])
-        → (before : List Placed) (place : Placed) (after : List Placed) (block : ℕ) → here.placed ≡ before ++ place ∷ after → place.block ≡ Some block
+        → (before : List Placed) (place : Placed) (after : List Placed) (block : ℕ)
+        → here.placed ≡ before ++ place ∷ after → place.block ≡ Some block
         → (buffer : ℕ) → (made_of log front).blocks buffer ≡ Some block → ⊥ }
     ensures once { (log : Log) (front : List Head) (here : Head) → Succeeds log (front ++ here ∷ [])
-        → (before : List Placed) (place : Placed) (after : List Placed) (block : ℕ) → here.placed ≡ before ++ place ∷ after → place.block ≡ Some block
+        → (before : List Placed) (place : Placed) (after : List Placed) (block : ℕ)
+        → here.placed ≡ before ++ place ∷ after → place.block ≡ Some block
         → takes block before ≡ false }
     ensures pages { (log : Log) (front : List Head) (here : Head) → Succeeds log (front ++ here ∷ [])
-        → AllByRecursion (λ range. takes range.block (all_places (places_in front) ++ here.placed) ≡ false) (staged_ranges here.placed) }
+        → AllByRecursion (λ range. takes range.block (all_places (places_in front) ++ here.placed) ≡ false)
+        (staged_ranges here.placed) }
 {}
 
-/// The law of held blocks, in every succession. The buffers that live behind messages have blocks of their own, and each of
-/// these is held: an item took it, and since then none took it again and none gave it up.
+/// The law of held blocks, in every succession. The buffers that live behind messages have blocks of their own, and
+/// each of these is held: an item took it, and since then none took it again and none gave it up. So a device holds
+/// what the commands and the host writes of a message use that it accepted and did not complete, whatever it accepted
+/// behind it.
 pub fn used_blocks_are_held()
-    ensures held { (log : Log) (front : List Head) (here : Head) → Succeeds log (front ++ here ∷ []) → (buffer block : ℕ)
-        → (made_of log (front ++ here ∷ [])).blocks buffer ≡ Some block → IsHeldBy (all_places (places_in (front ++ here ∷ []))) block }
-    ensures own { (log : Log) (front : List Head) (here : Head) → Succeeds log (front ++ here ∷ []) → (buffer other block : ℕ)
-        → (made_of log (front ++ here ∷ [])).blocks buffer ≡ Some block → (made_of log (front ++ here ∷ [])).blocks other ≡ Some block → buffer ≡ other }
+    ensures held { (log : Log) (front : List Head) (here : Head) → Succeeds log (front ++ here ∷ [])
+        → (buffer block : ℕ)
+        → (made_of log (front ++ here ∷ [])).blocks buffer ≡ Some block
+        → IsHeldBy (all_places (places_in (front ++ here ∷ []))) block }
+    ensures own { (log : Log) (front : List Head) (here : Head) → Succeeds log (front ++ here ∷ [])
+        → (buffer other block : ℕ)
+        → (made_of log (front ++ here ∷ [])).blocks buffer ≡ Some block
+        → (made_of log (front ++ here ∷ [])).blocks other ≡ Some block → buffer ≡ other }
+    ensures commands { (log : Log) → IsLawful log.meaning log.script
+        → (front : List Head) (here : Head) (back : List Head) → Succeeds log (front ++ here ∷ back)
+        → (completed : ℕ) → completed ≤ length front
+        → AllByRecursion (λ command. AllByRecursion
+        (λ touch. holds_block completed (places_in (front ++ here ∷ back)) touch.range.block ≡ true) (touches command))
+        (made_of log (front ++ here ∷ [])).listed }
+    ensures writes { (log : Log) → IsLawful log.meaning log.script
+        → (front : List Head) (here : Head) (back : List Head) → Succeeds log (front ++ here ∷ back)
+        → (completed : ℕ) → completed ≤ length front
+        → AllByRecursion (λ written. holds_block completed (places_in (front ++ here ∷ back)) written.range.block
+        ≡ true)
+        (made_of log (front ++ here ∷ [])).writes }
+{}
+
+/// The law of what stands, in every succession of a lawful script's messages. From memory in which the blocks of the
+/// buffers that live before a message begin with their bytes in order, its batch's acts lead to memory in which those
+/// behind it do: the blocks that its items take are set to 0, its parts are written, then its commands run.
+pub fn batches_keep_standing()
+    ensures start { (log : Log) (memory : Memory) → Stands log.script memory (made_of log []).blocks
+        (after_chunk log.meaning log.script 0) }
+    ensures stands { (log : Log) → IsLawful log.meaning log.script → (front : List Head) (here : Head)
+        → Succeeds log (front ++ here ∷ []) → (memory : Memory)
+        → Stands log.script memory (made_of log front).blocks (after_chunk log.meaning log.script (length front))
+        → Stands log.script (run_acts log.meaning (batch_acts log front here) memory)
+        (made_of log (front ++ here ∷ [])).blocks (after_chunk log.meaning log.script (suc (length front))) }
+{}
+
+/// The law of host writes and commands, in every succession of a lawful script's messages. Where a message writes for
+/// the host into a block that no item took since an earlier message, its own items included, and that is none of its
+/// pages, as for a map that overwrites nothing in use, no command of that earlier message shares a byte with the
+/// write.
+pub fn parts_keep_clear()
+    ensures clear { (log : Log) → IsLawful log.meaning log.script
+        → (front : List Head) (earlier : Head) (mid : List Head) (here : Head)
+        → Succeeds log ((front ++ earlier ∷ mid) ++ here ∷ [])
+        → AllByRecursion (λ written. takes written.range.block (all_places (places_in mid) ++ here.placed) ≡ false
+        → stages_in written.range.block here.placed ≡ false
+        → AllByRecursion (λ command. lists_conflict (touches command) (host_write_touch written.range ∷ []) ≡ false)
+        (made_of log (front ++ earlier ∷ [])).listed)
+        (made_of log ((front ++ earlier ∷ mid) ++ here ∷ [])).writes }
 {}

@@ -1,11 +1,13 @@
 -- What a block is: not made, a buffer's or one that a buffer had, or a page. Which chunk gave it up.
-use Rattle.std.proofs.Common.{◌≡◌, ℕ, Bool, true, false, cond, ◌==◌, List, ◌∷◌, sym, ap, ◌∙◌, subst, ◌⊎◌, inl, inr, Option, Some, None}
+use Rattle.std.proofs.Common.{◌≡◌, ℕ, Bool, true, false, cond, ◌==◌, List, ◌∷◌, sym, ap, ◌∙◌, subst, ◌⊎◌, inl, inr}
+use Rattle.std.proofs.Common.{Option, Some, None}
 use Rattle.std.specs.List.{AllByRecursion}
 use Rattle.std.proofs.lemmas.Bool.{cases_Bool, eqb-true}
 use Rattle.dx_types.specs.declared.range.Range.{Range}
 use Rattle.base_lemmas.proofs.Lists.{all_back}
 use Rattle.core_model.specs.Script.{updated}
-use Rattle.core_model.specs.CoreState.{Owner, Unmade, Home, Returning, Spare, Live, Retired, Paged, Dropped, has_class, Pool}
+use Rattle.core_model.specs.CoreState.{Owner, Unmade, Home, Returning, Spare, Live, Retired, Paged, Dropped}
+use Rattle.core_model.specs.CoreState.{has_class, Pool}
 use Rattle.core_model.specs.Owners.{bind_owner, retire_owner, is_block, retired, finish_owner, return_owner}
 use Rattle.core_model.specs.Placing.{PageChoice, Staged, Stages, On_newest, On_spare, On_new}
 use Rattle.core_model.specs.Adding.{page_owner}
@@ -133,18 +135,21 @@ return_sort chunk (Paged k since bound) = by (k == chunk)
     by false = same_sort (Paged k since bound)
 
 -- a block comes home
-pub home_sort : (own : ℕ → Owner) (block k : ℕ) → own block ≡ Returning k → (b : ℕ) → SortKept (own b) (updated block (Home k) own b)
+pub home_sort : (own : ℕ → Owner) (block k : ℕ) → own block ≡ Returning k → (b : ℕ)
+    → SortKept (own b) (updated block (Home k) own b)
 home_sort own block k e b =
     elim (cases_Bool (b == block)) [
       | inl t ↦
           let was : own b ≡ Returning k = ap own (eqb-true b block t) ∙ e in
           let now : updated block (Home k) own b ≡ Home k = ap (λ c. cond c (Home k) (own b)) t in
-          subst (λ o. SortKept o (updated block (Home k) own b)) (sym was) (subst (SortKept (Returning k)) (sym now) (record { off = λ n h. h; buffers = λ h. h; page = λ h. h }))
+          subst (λ o. SortKept o (updated block (Home k) own b)) (sym was)
+          (subst (SortKept (Returning k)) (sym now) (record { off = λ n h. h; buffers = λ h. h; page = λ h. h }))
       | inr f ↦ subst (SortKept (own b)) (sym (ap (λ c. cond c (Home k) (own b)) f)) (same_sort (own b))
     ]
 
 -- a block is given up, by this chunk
-pub retire_sort : (chunk : ℕ) (o : Owner) → ((n : ℕ) → IsOff n (retire_owner chunk o) → IsOff n o ⊎ (n ≡ chunk)) × (IsBuffers o → IsBuffers (retire_owner chunk o)) × (IsPage o → IsPage (retire_owner chunk o))
+pub retire_sort : (chunk : ℕ) (o : Owner) → ((n : ℕ) → IsOff n (retire_owner chunk o) → IsOff n o ⊎ (n ≡ chunk))
+    × (IsBuffers o → IsBuffers (retire_owner chunk o)) × (IsPage o → IsPage (retire_owner chunk o))
 retire_sort chunk Unmade = ((λ n h. inl h), (λ h. h), (λ h. h))
 retire_sort chunk (Home k) = ((λ n h. inl h), (λ h. h), (λ h. h))
 retire_sort chunk (Returning k) = ((λ n h. inl h), (λ h. h), (λ h. h))
@@ -163,17 +168,25 @@ pub record SortGiven (mark : Option ℕ) (chunk b : ℕ) (old new : Owner) : Typ
   pub buffers : IsBuffers old → IsBuffers new
   pub page : IsPage old → IsPage new
 
-pub given_sort : (mark : Option ℕ) (chunk : ℕ) (own : ℕ → Owner) (b : ℕ) → SortGiven mark chunk b (own b) (retired mark chunk own b)
+pub given_sort : (mark : Option ℕ) (chunk : ℕ) (own : ℕ → Owner) (b : ℕ)
+    → SortGiven mark chunk b (own b) (retired mark chunk own b)
 given_sort mark chunk own b =
     elim (cases_Bool (is_block mark b)) [
       | inl t ↦
           let r = retire_sort chunk (own b) in
           subst (SortGiven mark chunk b (own b)) (sym (ap (λ c. cond c (retire_owner chunk (own b)) (own b)) t))
-          (record { off = λ n h. elim (r.0 n h) [ inl x ↦ inl x | inr x ↦ inr (block_is mark b t, x) ]; buffers = r.1; page = r.2 })
-      | inr f ↦ subst (SortGiven mark chunk b (own b)) (sym (ap (λ c. cond c (retire_owner chunk (own b)) (own b)) f)) (record { off = λ n h. inl h; buffers = λ h. h; page = λ h. h })
+          (record {
+            off = λ n h. elim (r.0 n h) [ inl x ↦ inl x | inr x ↦ inr (block_is mark b t, x) ];
+            buffers =
+                r.1;
+            page = r.2;
+          })
+      | inr f ↦ subst (SortGiven mark chunk b (own b))
+          (sym (ap (λ c. cond c (retire_owner chunk (own b)) (own b)) f))
+          (record { off = λ n h. inl h; buffers = λ h. h; page = λ h. h })
     ]
 
--- Bytes are staged in a page that was one, or is new ----------------------------------------------------------------------------------
+-- Bytes are staged in a page that was one, or is new ----------------------------------------------------------------
 
 pub record SortStaged (old new : Owner) : Type 0 where
   pub strange : IsBuffers old → ⊥
@@ -190,13 +203,23 @@ page_off n (Retired k since bound) p h = p
 page_off n (Paged k since bound) p h = h
 page_off n Dropped p h = h
 
-pub stages_sort : (choice : PageChoice) (len : ℕ) (s : Staged) (before after : Pool) → Stages choice len s before after → (number fence : ℕ) (own : ℕ → Owner) → IsNewest number own before.newest
-    → AllByRecursion (λ p. own p.block ≡ Spare) before.spare → own before.next ≡ Unmade → SortStaged (own s.block) (page_owner number fence s.added (own s.block))
+pub stages_sort : (choice : PageChoice) (len : ℕ) (s : Staged) (before after : Pool)
+    → Stages choice len s before after → (number fence : ℕ) (own : ℕ → Owner) → IsNewest number own before.newest
+    → AllByRecursion (λ p. own p.block ≡ Spare) before.spare → own before.next ≡ Unmade
+    → SortStaged (own s.block) (page_owner number fence s.added (own s.block))
 stages_sort choice len s before after (On_newest _ _ n e fits) number fence own newest spare fresh =
     let x : IsNewest number own (Some n) = subst (IsNewest number own) e newest in
     let p = page_of_chunk number (own n.page.block) x.0 in
-    record { strange = λ b. page_or_buffers (own n.page.block) p b; page = p; off = λ m h. page_off m (own n.page.block) p h }
+    record {
+      strange = λ b. page_or_buffers (own n.page.block) p b;
+      page = p;
+      off =
+          λ m h. page_off m (own n.page.block) p h;
+    }
 stages_sort choice len s before after (On_spare _ _ front p back e long none) number fence own newest spare fresh =
-    let is : AllByRecursion (λ p. own p.block ≡ Spare) (p ∷ back) = all_back (λ p. own p.block ≡ Spare) front (p ∷ back) (subst (AllByRecursion (λ p. own p.block ≡ Spare)) e spare) in
+    let is : AllByRecursion (λ p. own p.block ≡ Spare) (p ∷ back) =
+    all_back (λ p. own p.block ≡ Spare) front (p ∷ back)
+    (subst (AllByRecursion (λ p. own p.block ≡ Spare)) e spare) in
     record { strange = λ b. subst IsBuffers is.0 b; page = tt; off = λ m h. h }
-stages_sort choice len s before after (On_new _ _ none) number fence own newest spare fresh = record { strange = λ b. subst IsBuffers fresh b; page = tt; off = λ m h. h }
+stages_sort choice len s before after (On_new _ _ none) number fence own newest spare fresh =
+    record { strange = λ b. subst IsBuffers fresh b; page = tt; off = λ m h. h }

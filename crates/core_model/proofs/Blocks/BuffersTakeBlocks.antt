@@ -1,5 +1,6 @@
 -- A buffer that is created or discarded takes a block: what holds beside the invariant is kept.
-use Rattle.std.proofs.Common.{◌≡◌, ℕ, ◌≤◌, Bool, true, false, cond, max, ◌==◌, nat_le, List, [], ◌∷◌, ◌++◌, refl, sym, ap, ◌∙◌, subst, inl, inr, Some, None, arith}
+use Rattle.std.proofs.Common.{◌≡◌, ℕ, ◌≤◌, Bool, true, false, cond, max, ◌==◌, nat_le, List, [], ◌∷◌, ◌++◌, refl, sym}
+use Rattle.std.proofs.Common.{ap, ◌∙◌, subst, inl, inr, Some, None, arith}
 use Rattle.std.proofs.lemmas.Bool.{both_ways, cases_Bool, eqb-true, eq-eqb}
 use Rattle.dx_types.specs.declared.range.Range.{Range}
 use Rattle.vk_types.specs.declared.message.Placed.{Placed}
@@ -8,16 +9,19 @@ use Rattle.vk_types.specs.Memory.{range, number_at}
 use Rattle.vk_types.specs.Effects.{Meaning}
 use Rattle.core_model.specs.Script.{Play, Create, Discard, Turn, Item, Script, padded, updated}
 use Rattle.core_model.specs.Chunking.{is_entry, entry_count}
-use Rattle.core_model.specs.CoreState.{Owner, Unmade, Live, has_class, Board, Pool, Core, later, taken_count, open_number}
+use Rattle.core_model.specs.CoreState.{Owner, Unmade, Live, has_class, Board, Pool, Core, later, taken_count}
+use Rattle.core_model.specs.CoreState.{open_number}
 use Rattle.core_model.specs.Readings.{Reading}
 use Rattle.core_model.specs.Owners.{nothing_bound, retire_owner, retired}
-use Rattle.core_model.specs.Adding.{with_turn, with_write, with_placed, placed_at, fenced, gives_block, length_of, retired_by}
+use Rattle.core_model.specs.Adding.{with_turn, with_write, with_placed, placed_at, fenced, gives_block, length_of}
+use Rattle.core_model.specs.Adding.{retired_by}
 use Rattle.core_model.specs.AppActs.{TakesTurn}
 use Rattle.core_model.specs.Playing.{HasBlock}
 use Rattle.core_model.specs.Lawful.{resets, PlaysRightly, IsLawful}
 use Rattle.core_model.specs.Invariant.{IsLive}
 use Rattle.core_model.specs.Kept.{IsMade, PlacesRight, Beside, IsTraced, Kept}
-use Rattle.core_model.proofs.Steps.Giving.{IsVacant, vacant_lives, vacant_buffer, stocked, vacant, own_unmade, has_parts}
+use Rattle.core_model.proofs.Steps.Giving.{IsVacant, vacant_lives, vacant_buffer, stocked, vacant, own_unmade}
+use Rattle.core_model.proofs.Steps.Giving.{has_parts}
 use Rattle.core_model.proofs.Steps.Discarding.{not_retired}
 use Rattle.core_model.proofs.Runs.Tracing.{entries_last, one_entry, traced_blocks}
 use Rattle.core_model.proofs.Runs.StepsKeepAll.{places_later}
@@ -25,163 +29,36 @@ use Rattle.core_model.proofs.Runs.TurnsKeepAll.{BesideAnd}
 use Rattle.core_model.proofs.Blocks.BoundRanges.{unconcerned, retired_beside}
 use Rattle.core_model.proofs.Blocks.TakenBlocks.{had_places, had_newest, own_classless, given_beside}
 use Rattle.vk_types.specs.declared.op.VkOp.TheVariants as op
+pub use Rattle.core_model.proofs.Blocks.BlocksBeside.{write_beside, placed_beside, write_traced, has_entry}
+use Rattle.core_model.proofs.Blocks.BlocksBeside.{has_beside, others_go_on, strange, was_not, parts, staging, by_fence}
 
--- a host write and a place change nothing of it
-pub write_beside : (script : Script) (call : ℕ) (r : Range) (l : List ℕ) (core : Core) → Beside script core → Beside script (with_write call r l core)
-write_beside script call r [] core b = b
-write_beside script call r (x ∷ xs) core b = unconcerned script core (with_write call r (x ∷ xs) core) b
-
-pub placed_beside : (script : Script) (p : Placed) (core : Core) → Beside script core → Beside script (with_placed p core)
-placed_beside script p core b = unconcerned script core (with_placed p core) b
-
--- nor of the turns that the chunks have, once the open chunk has an item
-pub write_traced : (script : Script) (call : ℕ) (r : Range) (l : List ℕ) (core : Core) → (entry_count core.open_chunk.turns ≡ 0 → ⊥) → IsTraced script core → IsTraced script (with_write call r l core)
-write_traced script call r [] core some h = h
-write_traced script call r (x ∷ xs) core some h = record { past = h.past; used = h.used; used_open = h.used_open; quiet = λ none. absurd (some none) }
-
--- an item is an entry
-pub has_entry : (ts : List Turn) (t : Turn) → is_entry t ≡ true → entry_count (ts ++ t ∷ []) ≡ 0 → ⊥
-has_entry ts t entry none =
-    let l = entries_last ts t in
-    let one = one_entry t entry in
-    let z : ⊥ = omega (arith, none, l, one) in
-    z
-
--- A block is taken ----------------------------------------------------------------------------------------------------------------
-
--- another buffer's bytes go on
-others_go_on : (r buffer : ℕ) → (r == buffer) ≡ false → (buffer == r) ≡ false
-others_go_on r buffer n = elim (cases_Bool (buffer == r)) [ inl t ↦ absurd (both_ways (r == buffer) n (eq-eqb r buffer (sym (eqb-true buffer r t)))) | inr f ↦ f ]
-
-module _ (meaning : Meaning) (reading : Reading) (script : Script) (lawful : IsLawful meaning script) (old : Core) (call item : ℕ) (ends : Bool) (buffer : ℕ) (play : Play) (bound : List Range) (turns : List Turn)
-    (k : Kept meaning reading script old) (quiet : (r : ℕ) → (r == buffer) ≡ false → resets r (Item call item ends play bound) ≡ false) (block : ℕ) (mid : Core)
-    (h : HasBlock reading script buffer block (with_turn (Item call item ends play bound) turns old) mid) where
-  abbrev t : Turn
-  t = Item call item ends play bound
-
-  vacant_block : IsVacant (old.owner block)
-  vacant_block = vacant reading script buffer block (with_turn t turns old) mid h lawful.classes (stocked old k.beside.places)
-
-  -- it is no live buffer's
-  strange : (r c : ℕ) → old.blocks r ≡ Some c → block ≡ c → ⊥
-  strange r c is same = vacant_lives r (old.owner block) vacant_block (subst (λ c. IsLive r (old.owner c)) (sym same) (k.good.live r c is))
-
-  was_not : old.is_staging block ≡ false
-  was_not = elim (cases_Bool (old.is_staging block)) [ inl x ↦ absurd (vacant_buffer (old.owner block) vacant_block (k.beside.blocks.held block x).0) | inr f ↦ f ]
-
-  parts : (board : Board) × (pool : Pool) × (mid ≡ record (with_turn t turns old) { board = board; pool = pool })
-  parts = has_parts reading script buffer block (with_turn t turns old) mid h
-
-  classless : script.is_staging buffer ≡ true → has_class block ≡ false
-  classless st = own_classless reading script buffer block (with_turn t turns old) mid h (lawful.staging buffer st) k.beside.places.next
-
-  -- by owners that leave the block as it was
-  module _ (own : ℕ → Owner) (same : own block ≡ old.owner block) (b : Beside script (record old { owner = own })) (listing : List VkOp) (fence : ℕ) (le : old.fence ≤ fence) (is_staging : ℕ → Bool) (copies : ℕ → ℕ → ℕ)
-      (st_here : is_staging block ≡ script.is_staging buffer) (st_other : (c : ℕ) → (block ≡ c → ⊥) → is_staging c ≡ old.is_staging c) where
-    abbrev taken : Core
-    taken = record (with_turn t turns old) { board = parts.0; pool = parts.1; owner = own; listing = listing; fence = fence }
-
-    has_beside : Beside script (record (gives_block buffer block taken) { is_staging = is_staging; copies = copies })
-    has_beside =
-        let places : PlacesRight parts.0 parts.1 (updated block (Live buffer fence nothing_bound) own) fence =
-        subst (λ c. PlacesRight c.board c.pool (updated block (Live buffer fence nothing_bound) own) fence) parts.2
-        (had_places own fence fence buffer (omega arith) reading script buffer block (with_turn t turns old) mid h lawful.classes (places_later old.board old.pool own old.fence fence le b.places)) in
-        unconcerned script _ (record (gives_block buffer block taken) { is_staging = is_staging; copies = copies })
-        (given_beside script (record old { owner = own }) b buffer block fence fence parts.0 parts.1 is_staging t (subst IsVacant (sym same) vacant_block) strange places
-        (ap (λ c. c.pool.newest) (sym parts.2) ∙ had_newest reading script buffer block (with_turn t turns old) mid h) st_here st_other classless quiet)
-
--- a buffer is created
-module _ (meaning : Meaning) (reading : Reading) (script : Script) (lawful : IsLawful meaning script) (old : Core) (call item : ℕ) (ends : Bool) (buffer : ℕ) (bytes : List ℕ) (bound : List Range) (turns : List Turn)
-    (k : Kept meaning reading script old) (block : ℕ) (mid : Core) (h : HasBlock reading script buffer block (with_turn (Item call item ends (Create buffer bytes) bound) turns old) mid) where
-  abbrev turn : Turn
-  turn = Item call item ends (Create buffer bytes) bound
-
-  abbrev new_board : Board
-  new_board = (parts meaning reading script lawful old call item ends buffer (Create buffer bytes) bound turns k (λ r n. others_go_on r buffer n) block mid h).0
-
-  abbrev new_pool : Pool
-  new_pool = (parts meaning reading script lawful old call item ends buffer (Create buffer bytes) bound turns k (λ r n. others_go_on r buffer n) block mid h).1
-
-  abbrev staging : ℕ → Bool
-  staging = updated block (script.is_staging buffer) old.is_staging
-
-  abbrev whole : Core → Core
-  whole core =
-      with_placed (placed_at call item (Some block) None None)
-      (record (with_write call (range block 0 (length_of script buffer)) (padded 0 bytes (length_of script buffer)) (gives_block buffer block core))
-      { copies = updated block (number_at bytes) old.copies; is_staging = staging })
-
-  with_fence : (listing : List VkOp) (fence : ℕ) → old.fence ≤ fence
-      → Beside script (whole (record (with_turn turn turns old) { board = new_board; pool = new_pool; listing = listing; fence = fence }))
-  with_fence listing fence le =
-      let b = has_beside meaning reading script lawful old call item ends buffer (Create buffer bytes) bound turns k (λ r n. others_go_on r buffer n) block mid h old.owner refl k.beside listing fence le staging
-      (updated block (number_at bytes) old.copies)
-      (ap (λ c. cond c (script.is_staging buffer) (old.is_staging block)) (eq-eqb block block refl))
-      (λ c n.
-      let d : (c == block) ≡ false = elim (cases_Bool (c == block)) [ inl x ↦ absurd (n (sym (eqb-true c block x))) | inr f ↦ f ] in
-      ap (λ x. cond x (script.is_staging buffer) (old.is_staging c)) d) in
-      by (padded 0 bytes (length_of script buffer)) b
-    where
-      by : (l : List ℕ)
-          → Beside script (record (gives_block buffer block (record (with_turn turn turns old) { board = new_board; pool = new_pool; listing = listing; fence = fence })) { is_staging = staging; copies = updated block (number_at bytes) old.copies })
-          → Beside script (with_placed (placed_at call item (Some block) None None)
-          (record (with_write call (range block 0 (length_of script buffer)) l (gives_block buffer block (record (with_turn turn turns old) { board = new_board; pool = new_pool; listing = listing; fence = fence })))
-          { copies = updated block (number_at bytes) old.copies; is_staging = staging }))
-      by [] b = placed_beside script (placed_at call item (Some block) None None) _ b
-      by (x ∷ xs) b = placed_beside script (placed_at call item (Some block) None None) _ (write_beside script call (range block 0 (length_of script buffer)) (x ∷ xs) _ b)
-
-  with_traced : (listing : List VkOp) (fence : ℕ) → IsTraced script (whole (record (with_turn turn turns old) { board = new_board; pool = new_pool; listing = listing; fence = fence }))
-  with_traced listing fence =
-      write_traced script call (range block 0 (length_of script buffer)) (padded 0 bytes (length_of script buffer))
-      (gives_block buffer block (record (with_turn turn turns old) { board = new_board; pool = new_pool; listing = listing; fence = fence })) (has_entry old.open_chunk.turns turn refl)
-      (traced_blocks script old.blocks old.past (old.taken ++ later old) old.open_chunk.turns old.open_chunk.bound old.open_chunk.writes old.open_chunk.commands k.traced turn refl old.is_staging old.owner old.open_chunk.staging
-      (updated buffer (Some block) old.blocks) old.open_chunk.writes old.open_chunk.commands
-      (λ r b st is.
-      elim (cases_Bool (r == buffer)) [
-        | inl x ↦
-            let there : Some block ≡ Some b = sym (ap (λ c. cond c (Some block) (old.blocks r)) x) ∙ is in
-            let same : block ≡ b = cc there in
-            let un = own_unmade reading script buffer block (with_turn turn turns old) mid h (lawful.staging buffer (ap script.is_staging (sym (eqb-true r buffer x)) ∙ st)) (stocked old k.beside.places) in
-            inr (λ made. let z : IsMade Unmade = subst IsMade un (subst (λ b. IsMade (old.owner b)) (sym same) made) in z)
-        | inr f ↦ inl (sym (ap (λ c. cond c (Some block) (old.blocks r)) f) ∙ is)
-      ])
-      k.beside.named k.beside.named_open)
-
-  by_fence : (c : Bool) → let n = retired_by (old.owner block) in let core = record (with_turn turn turns old) { board = new_board; pool = new_pool } in
-      let new = whole (cond c core (record core { listing = old.listing ++ op.Fence n ∷ []; fence = max old.fence n })) in BesideAnd script new
-  by_fence true = (with_fence old.listing old.fence (omega arith), by (padded 0 bytes (length_of script buffer)), with_traced old.listing old.fence)
-    where
-      by : (l : List ℕ) → (let c = with_write call (range block 0 (length_of script buffer)) l (gives_block buffer block (record (with_turn turn turns old) { board = new_board; pool = new_pool })) in taken_count c ≤ c.fence)
-      by [] = k.fenced
-      by (x ∷ xs) = k.fenced
-  by_fence false = (with_fence (old.listing ++ op.Fence (retired_by (old.owner block)) ∷ []) (max old.fence (retired_by (old.owner block))) (omega arith), by (padded 0 bytes (length_of script buffer)), with_traced (old.listing ++ op.Fence (retired_by (old.owner block)) ∷ []) (max old.fence (retired_by (old.owner block))))
-    where
-      more : taken_count old ≤ max old.fence (retired_by (old.owner block))
-      more = let f = k.fenced in omega (arith, f)
-
-      by : (l : List ℕ)
-          → (let n = retired_by (old.owner block) in
-          let c = with_write call (range block 0 (length_of script buffer)) l
-          (gives_block buffer block (record (with_turn turn turns old) { board = new_board; pool = new_pool; listing = old.listing ++ op.Fence n ∷ []; fence = max old.fence n })) in taken_count c ≤ c.fence)
-      by [] = more
-      by (x ∷ xs) = more
-
-pub create_kept : (meaning : Meaning) (reading : Reading) (script : Script) → IsLawful meaning script → (old : Core) (call item : ℕ) (ends : Bool) (buffer : ℕ) (bytes : List ℕ) (bound : List Range)
-    (turns : List Turn) (new : Core) → TakesTurn reading script (Item call item ends (Create buffer bytes) bound) turns old new → Kept meaning reading script old
+pub create_kept : (meaning : Meaning) (reading : Reading) (script : Script) → IsLawful meaning script
+    → (old : Core) (call item : ℕ) (ends : Bool) (buffer : ℕ) (bytes : List ℕ) (bound : List Range)
+    (turns : List Turn) (new : Core) → TakesTurn reading script (Item call item ends (Create buffer bytes) bound)
+    turns old new → Kept meaning reading script old
     → BesideAnd script new
 create_kept meaning reading script lawful old call item ends buffer bytes bound turns new n k =
     let block = n.0 in
-    let p = parts meaning reading script lawful old call item ends buffer (Create buffer bytes) bound turns k (λ r n. others_go_on r buffer n) block n.1 n.2 in
+    let p = parts meaning reading script lawful old call item ends buffer (Create buffer bytes) bound turns k
+    (λ r n. others_go_on r buffer n) block n.1 n.2 in
     subst (BesideAnd script)
     (sym (n.3 ∙ ap (λ mid. with_placed (placed_at call item (Some block) None None)
-    (record (with_write call (range block 0 (length_of script buffer)) (padded 0 bytes (length_of script buffer)) (gives_block buffer block (fenced (retired_by (old.owner block)) mid)))
-    { copies = updated block (number_at bytes) mid.copies; is_staging = updated block (script.is_staging buffer) mid.is_staging })) p.2))
-    (by_fence meaning reading script lawful old call item ends buffer bytes bound turns k block n.1 n.2 (nat_le (retired_by (old.owner block)) (taken_count old)))
+    (record (with_write call (range block 0 (length_of script buffer)) (padded 0 bytes (length_of script buffer))
+    (gives_block buffer block (fenced (retired_by (old.owner block)) mid))) {
+      copies = updated block (number_at bytes) mid.copies;
+      is_staging =
+          updated block (script.is_staging buffer) mid.is_staging;
+    })) p.2))
+    (by_fence meaning reading script lawful old call item ends buffer bytes bound turns k block n.1 n.2
+    (nat_le (retired_by (old.owner block)) (taken_count old)))
 
 -- a buffer is discarded
-module _ (meaning : Meaning) (reading : Reading) (script : Script) (lawful : IsLawful meaning script) (old : Core) (call item : ℕ) (ends : Bool) (buffer from : ℕ) (bytes : List ℕ) (bound : List Range)
-    (turns : List Turn) (e : old.future ≡ Item call item ends (Discard buffer from bytes) bound ∷ turns) (k : Kept meaning reading script old) (block : ℕ) (mid : Core)
-    (h : HasBlock reading script buffer block (with_turn (Item call item ends (Discard buffer from bytes) bound) turns old) mid) where
+module _ (meaning : Meaning) (reading : Reading) (script : Script) (lawful : IsLawful meaning script) (old : Core)
+    (call item : ℕ) (ends : Bool) (buffer from : ℕ) (bytes : List ℕ) (bound : List Range)
+    (turns : List Turn) (e : old.future ≡ Item call item ends (Discard buffer from bytes) bound ∷ turns)
+    (k : Kept meaning reading script old) (block : ℕ) (mid : Core)
+    (h : HasBlock reading script buffer block (with_turn (Item call item ends (Discard buffer from bytes) bound)
+    turns old) mid) where
   abbrev its_turn : Turn
   its_turn = Item call item ends (Discard buffer from bytes) bound
 
@@ -189,65 +66,114 @@ module _ (meaning : Meaning) (reading : Reading) (script : Script) (lawful : IsL
   own = retired (old.blocks buffer) (open_number old) old.owner
 
   rightly : PlaysRightly meaning script old.past call (Discard buffer from bytes)
-  rightly = lawful.plays old.past call item ends (Discard buffer from bytes) bound turns (sym (ap (λ l. old.past ++ l) (sym e) ∙ k.good.sound.position))
+  rightly = lawful.plays old.past call item ends (Discard buffer from bytes) bound turns
+      (sym (ap (λ l. old.past ++ l) (sym e) ∙ k.good.sound.position))
 
   apart : (r c : ℕ) → old.blocks r ≡ Some c → block ≡ c → ⊥
-  apart = strange meaning reading script lawful old call item ends buffer (Discard buffer from bytes) bound turns k (λ r n. others_go_on r buffer n) block mid h
+  apart = strange meaning reading script lawful old call item ends buffer (Discard buffer from bytes) bound turns k
+      (λ r n. others_go_on r buffer n) block mid h
 
   own_here : own block ≡ old.owner block
   own_here =
       let b = k.good.stands.has_block buffer rightly.0.0 in
-      ap (λ c. cond c (retire_owner (open_number old) (old.owner block)) (old.owner block)) (not_retired (old.blocks buffer) b.0 block b.1 (apart buffer b.0 b.1))
+      ap (λ c. cond c (retire_owner (open_number old) (old.owner block)) (old.owner block))
+      (not_retired (old.blocks buffer) b.0 block b.1 (apart buffer b.0 b.1))
 
   not_staging : script.is_staging buffer ≡ false
-  not_staging = elim (cases_Bool (script.is_staging buffer)) [ inl x ↦ let c = rightly.1 in absurd (let z : None ≡ Some c.0 = sym (lawful.staging buffer x) ∙ c.1 in cc z) | inr f ↦ f ]
+  not_staging = elim (cases_Bool (script.is_staging buffer)) [
+    | inl x ↦ let c = rightly.1 in
+        absurd (let z : None ≡ Some c.0 = sym (lawful.staging buffer x) ∙ c.1 in cc z)
+    | inr f ↦ f
+  ]
 
   abbrev its_board : Board
-  its_board = (parts meaning reading script lawful old call item ends buffer (Discard buffer from bytes) bound turns k (λ r n. others_go_on r buffer n) block mid h).0
+  its_board = (parts meaning reading script lawful old call item ends buffer (Discard buffer from bytes) bound turns
+      k (λ r n. others_go_on r buffer n) block mid h).0
 
   abbrev its_pool : Pool
-  its_pool = (parts meaning reading script lawful old call item ends buffer (Discard buffer from bytes) bound turns k (λ r n. others_go_on r buffer n) block mid h).1
+  its_pool = (parts meaning reading script lawful old call item ends buffer (Discard buffer from bytes) bound turns
+      k (λ r n. others_go_on r buffer n) block mid h).1
 
   abbrev discarded : Core → Core
   discarded core =
       with_placed (placed_at call item (Some block) (old.blocks buffer) None)
-      (with_write call (range block 0 (script.size buffer)) (padded from bytes (script.size buffer)) (gives_block buffer block core))
+      (with_write call (range block 0 (script.size buffer)) (padded from bytes (script.size buffer))
+      (gives_block buffer block core))
 
   discard_fence : (listing : List VkOp) (fence : ℕ) → old.fence ≤ fence
-      → Beside script (discarded (record (with_turn its_turn turns old) { board = its_board; pool = its_pool; owner = own; listing = listing; fence = fence }))
+      → Beside script
+      (discarded (record (with_turn its_turn turns old) {
+        board = its_board;
+        pool = its_pool;
+        owner =
+            own;
+        listing = listing;
+        fence = fence;
+      }))
   discard_fence listing fence le =
       placed_beside script (placed_at call item (Some block) (old.blocks buffer) None) _
       (write_beside script call (range block 0 (script.size buffer)) (padded from bytes (script.size buffer)) _
-      (has_beside meaning reading script lawful old call item ends buffer (Discard buffer from bytes) bound turns k (λ r n. others_go_on r buffer n) block mid h own own_here (retired_beside script old buffer k.beside) listing fence le
+      (has_beside meaning reading script lawful old call item ends buffer (Discard buffer from bytes) bound turns k
+      (λ r n. others_go_on r buffer n) block mid h own own_here (retired_beside script old buffer k.beside)
+      listing fence le
       old.is_staging old.copies
-      (was_not meaning reading script lawful old call item ends buffer (Discard buffer from bytes) bound turns k (λ r n. others_go_on r buffer n) block mid h ∙ sym not_staging) (λ c n. refl)))
+      (was_not meaning reading script lawful old call item ends buffer (Discard buffer from bytes) bound turns k
+      (λ r n. others_go_on r buffer n) block mid h ∙ sym not_staging) (λ c n. refl)))
 
-  discard_traced : (listing : List VkOp) (fence : ℕ) → IsTraced script (discarded (record (with_turn its_turn turns old) { board = its_board; pool = its_pool; owner = own; listing = listing; fence = fence }))
+  discard_traced : (listing : List VkOp) (fence : ℕ) → IsTraced script
+      (discarded (record (with_turn its_turn turns old) {
+        board = its_board;
+        pool = its_pool;
+        owner = own;
+        listing =
+            listing;
+        fence = fence;
+      }))
   discard_traced listing fence =
       write_traced script call (range block 0 (script.size buffer)) (padded from bytes (script.size buffer))
-      (gives_block buffer block (record (with_turn its_turn turns old) { board = its_board; pool = its_pool; owner = own; listing = listing; fence = fence })) (has_entry old.open_chunk.turns its_turn refl)
-      (traced_blocks script old.blocks old.past (old.taken ++ later old) old.open_chunk.turns old.open_chunk.bound old.open_chunk.writes old.open_chunk.commands k.traced its_turn refl old.is_staging old.owner
+      (gives_block buffer block (record (with_turn its_turn turns old) {
+        board = its_board;
+        pool = its_pool;
+        owner =
+            own;
+        listing = listing;
+        fence = fence;
+      })) (has_entry old.open_chunk.turns its_turn refl)
+      (traced_blocks script old.blocks old.past (old.taken ++ later old) old.open_chunk.turns old.open_chunk.bound
+      old.open_chunk.writes old.open_chunk.commands k.traced its_turn refl old.is_staging old.owner
       old.open_chunk.staging (updated buffer (Some block) old.blocks) old.open_chunk.writes old.open_chunk.commands
       (λ r b st is.
       elim (cases_Bool (r == buffer)) [
-        | inl x ↦ absurd (both_ways (script.is_staging buffer) not_staging (ap script.is_staging (sym (eqb-true r buffer x)) ∙ st))
+        | inl x ↦ absurd (both_ways (script.is_staging buffer) not_staging
+            (ap script.is_staging (sym (eqb-true r buffer x)) ∙ st))
         | inr f ↦ inl (sym (ap (λ c. cond c (Some block) (old.blocks r)) f) ∙ is)
       ])
       k.beside.named k.beside.named_open)
 
-  write_fence : (l : List ℕ) (r : Range) (core : Core) → taken_count core ≤ core.fence → (let c = with_write call r l core in taken_count c ≤ c.fence)
+  write_fence : (l : List ℕ) (r : Range) (core : Core) → taken_count core ≤ core.fence
+      → (let c = with_write call r l core in taken_count c ≤ c.fence)
   write_fence [] r core f = f
   write_fence (x ∷ xs) r core f = f
 
-  discard_by_fence : (c : Bool) → let n = retired_by (old.owner block) in let core = record (with_turn its_turn turns old) { board = its_board; pool = its_pool; owner = own } in
-      let new = discarded (cond c core (record core { listing = old.listing ++ op.Fence n ∷ []; fence = max old.fence n })) in BesideAnd script new
+  discard_by_fence : (c : Bool) → let n = retired_by (old.owner block) in let core =
+      record (with_turn its_turn turns old) { board = its_board; pool = its_pool; owner = own } in
+      let new = discarded
+      (cond c core (record core { listing = old.listing ++ op.Fence n ∷ []; fence = max old.fence n })) in
+      BesideAnd script new
   discard_by_fence true = (
     discard_fence old.listing old.fence (omega arith),
-    write_fence (padded from bytes (script.size buffer)) (range block 0 (script.size buffer)) (gives_block buffer block (record (with_turn its_turn turns old) { board = its_board; pool = its_pool; owner = own })) k.fenced,
+    write_fence (padded from bytes (script.size buffer)) (range block 0 (script.size buffer))
+        (gives_block buffer block (record (with_turn its_turn turns old) {
+          board = its_board;
+          pool =
+              its_pool;
+          owner = own;
+        })) k.fenced,
     discard_traced old.listing old.fence,
   )
   discard_by_fence false = (
-    discard_fence (old.listing ++ op.Fence (retired_by (old.owner block)) ∷ []) (max old.fence (retired_by (old.owner block))) (omega arith),
+    discard_fence (old.listing ++ op.Fence (retired_by (old.owner block)) ∷ [])
+        (max old.fence (retired_by (old.owner block))) (omega arith),
     write_fence (padded from bytes (script.size buffer)) (range block 0 (script.size buffer))
         (gives_block buffer block (record (with_turn its_turn turns old) {
           board = its_board;
@@ -255,18 +181,25 @@ module _ (meaning : Meaning) (reading : Reading) (script : Script) (lawful : IsL
           owner = own;
           listing = old.listing ++ op.Fence (retired_by (old.owner block)) ∷ [];
           fence = max old.fence (retired_by (old.owner block));
-        })) (let f = k.fenced in let z : taken_count old ≤ max old.fence (retired_by (old.owner block)) = omega (arith, f) in z),
-    discard_traced (old.listing ++ op.Fence (retired_by (old.owner block)) ∷ []) (max old.fence (retired_by (old.owner block))),
+        })) (let f = k.fenced in let z : taken_count old ≤ max old.fence (retired_by (old.owner block)) =
+        omega (arith, f) in z),
+    discard_traced (old.listing ++ op.Fence (retired_by (old.owner block)) ∷ [])
+        (max old.fence (retired_by (old.owner block))),
   )
 
-pub discard_kept : (meaning : Meaning) (reading : Reading) (script : Script) → IsLawful meaning script → (old : Core) (call item : ℕ) (ends : Bool) (buffer from : ℕ) (bytes : List ℕ) (bound : List Range)
+pub discard_kept : (meaning : Meaning) (reading : Reading) (script : Script) → IsLawful meaning script
+    → (old : Core) (call item : ℕ) (ends : Bool) (buffer from : ℕ) (bytes : List ℕ) (bound : List Range)
     (turns : List Turn) (new : Core) → old.future ≡ Item call item ends (Discard buffer from bytes) bound ∷ turns
-    → TakesTurn reading script (Item call item ends (Discard buffer from bytes) bound) turns old new → Kept meaning reading script old → BesideAnd script new
+    → TakesTurn reading script (Item call item ends (Discard buffer from bytes) bound) turns old new
+    → Kept meaning reading script old → BesideAnd script new
 discard_kept meaning reading script lawful old call item ends buffer from bytes bound turns new e n k =
     let block = n.0 in
-    let p = parts meaning reading script lawful old call item ends buffer (Discard buffer from bytes) bound turns k (λ r n. others_go_on r buffer n) block n.1 n.2 in
+    let p = parts meaning reading script lawful old call item ends buffer (Discard buffer from bytes) bound turns k
+    (λ r n. others_go_on r buffer n) block n.1 n.2 in
     subst (BesideAnd script)
     (sym (n.3 ∙ ap (λ mid. with_placed (placed_at call item (Some block) (old.blocks buffer) None)
     (with_write call (range block 0 (script.size buffer)) (padded from bytes (script.size buffer))
-    (gives_block buffer block (fenced (retired_by (old.owner block)) (record mid { owner = retired (old.blocks buffer) (open_number old) mid.owner }))))) p.2))
-    (discard_by_fence meaning reading script lawful old call item ends buffer from bytes bound turns e k block n.1 n.2 (nat_le (retired_by (old.owner block)) (taken_count old)))
+    (gives_block buffer block (fenced (retired_by (old.owner block))
+    (record mid { owner = retired (old.blocks buffer) (open_number old) mid.owner }))))) p.2))
+    (discard_by_fence meaning reading script lawful old call item ends buffer from bytes bound turns e k block n.1
+    n.2 (nat_le (retired_by (old.owner block)) (taken_count old)))

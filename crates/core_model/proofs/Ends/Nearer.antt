@@ -1,10 +1,15 @@
 -- Each step of the core that is stepped comes nearer to the end.
-use Rattle.std.proofs.Common.{◌≡◌, ℕ, zero, suc, ◌+◌, ◌*◌, ◌<◌, ◌≤◌, Bool, true, false, cond, ◌||◌, ◌&&◌, not, nat_lt, nat_le, List, [], ◌∷◌, ◌++◌, length, refl, sym, ap, ◌∙◌, subst, inl, inr, Option, Some, None, arith, length-append}
+use Rattle.std.proofs.Common.{◌≡◌, ℕ, zero, suc, ◌+◌, ◌*◌, ◌<◌, ◌≤◌, Bool, true, false, cond, ◌||◌, ◌&&◌, not, nat_lt}
+use Rattle.std.proofs.Common.{nat_le, List, [], ◌∷◌, ◌++◌, length, refl, sym, ap, ◌∙◌, subst, inl, inr, Option, Some}
+use Rattle.std.proofs.Common.{None, arith, length-append}
 use Rattle.std.proofs.lemmas.Bool.{lt-ltb}
 use Rattle.dx_types.specs.declared.range.Range.{Range}
 use Rattle.vk_types.specs.Effects.{Meaning}
-use Rattle.core_model.specs.Script.{Play, Create, Discard, No_overwrite, Stage, Command, Destroy, Create_shader, Mark_query, Set_state, Ask, Bytes, Count, Constant, Turn, Refused, Passed, Flushed, Asked, Item, Script}
-use Rattle.core_model.specs.Chunking.{is_entry, entry_count, mark_count, staged_count, is_full, in_list, stops_next, is_due}
+use Rattle.core_model.specs.Script.{Play, Create, Discard, No_overwrite, Stage, Command, Destroy, Create_shader}
+use Rattle.core_model.specs.Script.{Mark_query, Set_state, Ask, Bytes, Count, Constant, Turn, Refused, Passed}
+use Rattle.core_model.specs.Script.{Flushed, Asked, Item, Script}
+use Rattle.core_model.specs.Chunking.{is_entry, entry_count, mark_count, staged_count, is_full, in_list, stops_next}
+use Rattle.core_model.specs.Chunking.{is_due}
 use Rattle.core_model.specs.CoreState.{Segment, Running, Message, Core, rests, of_messages}
 use Rattle.core_model.specs.Readings.{First_choices}
 use Rattle.core_model.specs.Adding.{with_turn}
@@ -12,131 +17,19 @@ use Rattle.core_model.specs.AppActs.{TakesTurn, Acts, answer, handed_over}
 use Rattle.core_model.specs.OtherParts.{created_by, created, unmade, snaps_of, values_of}
 use Rattle.core_model.specs.Playing.{Plays}
 use Rattle.core_model.specs.TakingPosts.{TakesPosts, with_post, with_fence}
-use Rattle.core_model.specs.CoreStep.{Event, App, Cs, Pipe, Submit, Accept, Run, Complete, Finish, Come_home, Step, AllComeHome, CoreStep}
+use Rattle.core_model.specs.CoreStep.{Event, App, Cs, Pipe, Submit, Accept, Run, Complete, Finish, Come_home, Step}
+use Rattle.core_model.specs.CoreStep.{AllComeHome, CoreStep}
 use Rattle.core_model.specs.Ends.{sum_of, to_come, distance}
 use Rattle.core_model.proofs.Steps.QueueHeads.{one_more}
 use Rattle.core_model.proofs.Runs.Tracing.{entries_last}
 use Rattle.core_model.proofs.Messages.ItemResults.{applied}
 use Rattle.core_model.proofs.Messages.ItemCases.{result_of, result_is}
 use Rattle.core_model.proofs.Ends.FewerShaders.{unmade_append, unmade_short, one_fewer}
+use Rattle.core_model.proofs.Ends.DistanceParts.{commands_in, created_in, commands_parts, created_parts}
+use Rattle.core_model.proofs.Ends.DistanceParts.{commands_last, rests_append, created_last, one_created, none_created}
+use Rattle.core_model.proofs.Ends.DistanceParts.{due_entry, eight, eight_is, same_eight, one_left}
 
--- Sums ------------------------------------------------------------------------------------------------------------------------------
-
-pub sum_append : {A : Type 0} (f : A → ℕ) (xs ys : List A) → sum_of f (xs ++ ys) ≡ sum_of f xs + sum_of f ys
-sum_append f [] ys = omega arith
-sum_append f (x ∷ xs) ys = let r = sum_append f xs ys in omega (arith, r)
-
-abbrev commands_in : List Segment → ℕ
-commands_in ss = sum_of (λ s. length s.commands) ss
-
-abbrev created_in : List Segment → ℕ
-created_in ss = sum_of (λ s. length (created s.turns)) ss
-
--- the commands to come, part by part
-commands_parts : (core : Core) → commands_in (to_come core) ≡ commands_in core.submissions + (commands_in core.batches + (commands_in core.chunks + length core.open_chunk.commands))
-commands_parts core =
-    let f : Segment → ℕ = λ s. length s.commands in
-    let a = sum_append f core.submissions (core.batches ++ (core.chunks ++ core.open_chunk ∷ [])) in
-    let b = sum_append f core.batches (core.chunks ++ core.open_chunk ∷ []) in
-    let c = sum_append f core.chunks (core.open_chunk ∷ []) in
-    omega (arith, a, b, c)
-
-created_parts : (ss : List Segment) (s : Segment) → created_in (ss ++ s ∷ []) ≡ created_in ss + length (created s.turns)
-created_parts ss s = let a = sum_append (λ s. length (created s.turns)) ss (s ∷ []) in omega (arith, a)
-
-commands_last : (ss : List Segment) (s : Segment) → commands_in (ss ++ s ∷ []) ≡ commands_in ss + length s.commands
-commands_last ss s = let a = sum_append (λ s. length s.commands) ss (s ∷ []) in omega (arith, a)
-
-rests_append : (xs ys : List Running) → length (rests (xs ++ ys)) ≡ length (rests xs) + length (rests ys)
-rests_append [] ys = omega arith
-rests_append (x ∷ xs) ys =
-    let r = rests_append xs ys in
-    let a = length-append x.rest (rests (xs ++ ys)) in
-    let b = length-append x.rest (rests xs) in
-    omega (arith, r, a, b)
-
--- The open chunk ------------------------------------------------------------------------------------------------------------------------
-
-created_last : (ts : List Turn) (t : Turn) → length (created (ts ++ t ∷ [])) ≡ length (created ts) + length (created_by t)
-created_last [] t = let a = length-append (created_by t) [] in omega (arith, a)
-created_last (u ∷ ts) t =
-    let r = created_last ts t in
-    let a = length-append (created_by u) (created (ts ++ t ∷ [])) in
-    let b = length-append (created_by u) (created ts) in
-    omega (arith, r, a, b)
-
-one_created : (t : Turn) → length (created_by t) ≤ 1
-one_created (Refused call) = omega arith
-one_created (Passed call) = omega arith
-one_created (Flushed call) = omega arith
-one_created (Asked call ask used may_pend) = omega arith
-one_created (Item call item ends (Create buffer bytes) bound) = omega arith
-one_created (Item call item ends (Discard buffer from bytes) bound) = omega arith
-one_created (Item call item ends (No_overwrite buffer from bytes) bound) = omega arith
-one_created (Item call item ends (Stage bytes target skip) bound) = omega arith
-one_created (Item call item ends (Command w skip) bound) = omega arith
-one_created (Item call item ends (Destroy buffer) bound) = omega arith
-one_created (Item call item ends Create_shader bound) = omega arith
-one_created (Item call item ends (Mark_query query begins) bound) = omega arith
-one_created (Item call item ends Set_state bound) = omega arith
-
-none_created : (t : Turn) → is_entry t ≡ false → length (created_by t) ≡ 0
-none_created (Refused call) e = refl
-none_created (Passed call) e = refl
-none_created (Flushed call) e = refl
-none_created (Asked call ask used may_pend) e = refl
-none_created (Item call item ends play bound) e = absurd (cc e)
-
-add_none : (m s : ℕ) → (m ≡ 0) × (s ≡ 0) → (0 + m ≡ 0) × (0 + s ≡ 0)
-add_none m s h = let a = h.0 in let b = h.1 in (omega (arith, a), omega (arith, b))
-
--- without entries there are no marks and no staged bytes
-none_marked : (script : Script) (ts : List Turn) → entry_count ts ≡ 0 → (mark_count script ts ≡ 0) × (staged_count ts ≡ 0)
-none_marked script [] e = (refl, refl)
-none_marked script (Refused call ∷ ts) e = add_none (mark_count script ts) (staged_count ts) (none_marked script ts (let z : 0 + entry_count ts ≡ 0 = e in omega (arith, z)))
-none_marked script (Passed call ∷ ts) e = add_none (mark_count script ts) (staged_count ts) (none_marked script ts (let z : 0 + entry_count ts ≡ 0 = e in omega (arith, z)))
-none_marked script (Flushed call ∷ ts) e = add_none (mark_count script ts) (staged_count ts) (none_marked script ts (let z : 0 + entry_count ts ≡ 0 = e in omega (arith, z)))
-none_marked script (Asked call ask used may_pend ∷ ts) e = add_none (mark_count script ts) (staged_count ts) (none_marked script ts (let z : 0 + entry_count ts ≡ 0 = e in omega (arith, z)))
-none_marked script (Item call item ends play bound ∷ ts) e = absurd (let z : 1 + entry_count ts ≡ 0 = e in omega (arith, z))
-
--- a chunk that is due has an entry
-pub due_entry : (script : Script) (ts future : List Turn) → is_due script ts future ≡ true → 0 < entry_count ts
-due_entry script ts future due = by (entry_count ts) refl
-  where
-    by : (n : ℕ) → entry_count ts ≡ n → 0 < entry_count ts
-    by (suc n) e = omega (arith, e)
-    by zero e =
-        let none = none_marked script ts e in
-        let a : nat_le 64 (entry_count ts) ≡ false = ap (nat_le 64) e in
-        let b : nat_le 16 (mark_count script ts) ≡ false = ap (nat_le 16) none.0 in
-        let c : nat_le 4194304 (staged_count ts) ≡ false = ap (nat_le 4194304) none.1 in
-        let d : nat_le 1 (entry_count ts) ≡ false = ap (nat_le 1) e in
-        let full : is_full script ts ≡ false = ap (λ x. x || (nat_le 16 (mark_count script ts) || nat_le 4194304 (staged_count ts))) a ∙ ap (λ x. x || nat_le 4194304 (staged_count ts)) b ∙ c in
-        let z : false ≡ true = sym (ap (λ x. x || (nat_le 1 (entry_count ts) && (not (in_list ts) && stops_next future))) full ∙ ap (λ x. x && (not (in_list ts) && stops_next future)) d) ∙ due in
-        absurd (cc z)
-
-eight : (n : ℕ) → cond (nat_lt 0 n) 8 0 ≤ 8
-eight n = by (nat_lt 0 n)
-  where
-    by : (c : Bool) → cond c 8 0 ≤ 8
-    by true = omega arith
-    by false = omega arith
-
-eight_is : (n : ℕ) → 0 < n → 8 ≤ cond (nat_lt 0 n) 8 0
-eight_is n l = by (nat_lt 0 n) (lt-ltb 0 n l)
-  where
-    by : (c : Bool) → c ≡ true → 8 ≤ cond c 8 0
-    by true e = omega arith
-    by false e = absurd (cc e)
-
-same_eight : (m n : ℕ) → m ≡ n → cond (nat_lt 0 m) 8 0 ≤ cond (nat_lt 0 n) 8 0
-same_eight m n e = subst (λ k. cond (nat_lt 0 m) 8 0 ≤ cond (nat_lt 0 k) 8 0) e (omega arith)
-
-one_left : (b : Bool) → b ≡ false → 1 ≤ cond b 0 1
-one_left true e = absurd (cc e)
-one_left false e = omega arith
-
--- Steps -----------------------------------------------------------------------------------------------------------------------------------
+-- Steps -------------------------------------------------------------------------------------------------------------
 
 module _ (meaning : Meaning) (script : Script) where
   home_stays : (bs : List ℕ) (old new : Core) → AllComeHome meaning script bs old new → distance new ≡ distance old
@@ -157,14 +50,24 @@ module _ (meaning : Meaning) (script : Script) where
       let made_old = created_parts old.chunks old.open_chunk in
       let made_new = created_parts ss old.open_chunk in
       let of : created_in old.chunks ≡ length (created s.turns) + created_in ss = ap created_in p.2 in
-      let u : length (unmade old.modules (old.requested ++ created s.turns)) ≡ length (unmade old.modules old.requested) + length (unmade old.modules (created s.turns)) =
-      ap length (unmade_append old.modules old.requested (created s.turns)) ∙ length-append (unmade old.modules old.requested) (unmade old.modules (created s.turns)) in
+      let u : length (unmade old.modules (old.requested ++ created s.turns))
+      ≡ length (unmade old.modules old.requested) + length (unmade old.modules (created s.turns)) =
+      ap length (unmade_append old.modules old.requested (created s.turns))
+      ∙ length-append (unmade old.modules old.requested) (unmade old.modules (created s.turns)) in
       let short = unmade_short old.modules (created s.turns) in
-      let c = commands_parts (record old { chunks = ss; batches = old.batches ++ s ∷ []; requested = old.requested ++ created s.turns }) in
-      subst (λ c. distance c < distance old) (sym p.4) (omega (arith, chunks, batches, b, c, was, now, made_old, made_new, of, u, short))
+      let c = commands_parts (record old {
+        chunks = ss;
+        batches = old.batches ++ s ∷ [];
+        requested =
+            old.requested ++ created s.turns;
+      }) in
+      subst (λ c. distance c < distance old) (sym p.4) (omega
+      (arith, chunks, batches, b, c, was, now, made_old, made_new, of, u, short))
 
-  pipe_nearer : (j : ℕ) (old new : Core) → Step meaning First_choices script old (Pipe j) new → distance new < distance old
-  pipe_nearer j old new p = let l = one_fewer p.0 old.modules old.requested j p.1 in subst (λ c. distance c < distance old) (sym p.2) (omega (arith, l))
+  pipe_nearer : (j : ℕ) (old new : Core) → Step meaning First_choices script old (Pipe j) new
+      → distance new < distance old
+  pipe_nearer j old new p = let l = one_fewer p.0 old.modules old.requested j p.1 in
+      subst (λ c. distance c < distance old) (sym p.2) (omega (arith, l))
 
   submit_nearer : (old new : Core) → Step meaning First_choices script old Submit new → distance new < distance old
   submit_nearer old new p =
@@ -192,7 +95,8 @@ module _ (meaning : Meaning) (script : Script) where
       let was : commands_in old.submissions ≡ length s.commands + commands_in ss = ap commands_in p.2 in
       subst (λ c. distance c < distance old) (sym p.4) (omega (arith, submissions, accepted, left, one, b, c, was))
 
-  run_nearer : (j : ℕ) (old new : Core) → Step meaning First_choices script old (Run j) new → distance new < distance old
+  run_nearer : (j : ℕ) (old new : Core) → Step meaning First_choices script old (Run j) new
+      → distance new < distance old
   run_nearer j old new p =
       let front = p.0 in
       let r = p.1 in
@@ -201,7 +105,8 @@ module _ (meaning : Meaning) (script : Script) where
       let old_count : length old.accepted ≡ length (front ++ r ∷ back) = ap length p.3 in
       let a = length-append front (r ∷ back) in
       let b = length-append front (less ∷ back) in
-      let old_left : length (rests old.accepted) ≡ length (rests (front ++ r ∷ back)) = ap (λ l. length (rests l)) p.3 in
+      let old_left : length (rests old.accepted) ≡ length (rests (front ++ r ∷ back)) =
+      ap (λ l. length (rests l)) p.3 in
       let c = rests_append front (r ∷ back) in
       let d = rests_append front (less ∷ back) in
       let e = length-append r.rest (rests back) in
@@ -222,7 +127,8 @@ module _ (meaning : Meaning) (script : Script) where
         values = values_of old.counts (old.taken ++ (of_messages old.posts ++ of_messages old.completions)) r.segment;
       } in
       let completions = one_more old.completions message in
-      let left : length (rests old.accepted) ≡ length (rests rs) = ap (λ l. length (rests l)) p.2 ∙ ap (λ l. length (l ++ rests rs)) p.3 in
+      let left : length (rests old.accepted) ≡ length (rests rs) = ap (λ l. length (rests l)) p.2
+      ∙ ap (λ l. length (l ++ rests rs)) p.3 in
       subst (λ c. distance c < distance old) (sym p.5) (omega (arith, accepted, completions, left))
 
   finish_nearer : (old new : Core) → Step meaning First_choices script old Finish new → distance new < distance old
@@ -243,7 +149,8 @@ module _ (meaning : Meaning) (script : Script) where
   fence_stays zero core = refl
   fence_stays (suc n) core = refl
 
-  hand_nearer : (old : Core) → is_due script old.open_chunk.turns old.future ≡ true → distance (handed_over old) < distance old
+  hand_nearer : (old : Core) → is_due script old.open_chunk.turns old.future ≡ true
+      → distance (handed_over old) < distance old
   hand_nearer old due =
       let e = eight_is (entry_count old.open_chunk.turns) (due_entry script old.open_chunk.turns old.future due) in
       let chunks = one_more old.chunks old.open_chunk in
@@ -255,12 +162,14 @@ module _ (meaning : Meaning) (script : Script) where
       omega (arith, e, chunks, b, c, now, d, f)
 
   -- a turn that is no item
-  turn_nearer : (old : Core) (t : Turn) (turns : List Turn) → old.future ≡ t ∷ turns → is_entry t ≡ false → distance (with_turn t turns old) < distance old
+  turn_nearer : (old : Core) (t : Turn) (turns : List Turn) → old.future ≡ t ∷ turns → is_entry t ≡ false
+      → distance (with_turn t turns old) < distance old
   turn_nearer old t turns e plain =
       let future : length old.future ≡ suc (length turns) = ap length e in
       let one : entry_count (t ∷ []) ≡ 0 = ap (λ c. cond c 1 0 + 0) plain in
       let last = entries_last old.open_chunk.turns t in
-      let count : entry_count (old.open_chunk.turns ++ t ∷ []) ≡ entry_count old.open_chunk.turns = omega (arith, one, last) in
+      let count : entry_count (old.open_chunk.turns ++ t ∷ []) ≡ entry_count old.open_chunk.turns =
+      omega (arith, one, last) in
       let same = same_eight (entry_count (old.open_chunk.turns ++ t ∷ [])) (entry_count old.open_chunk.turns) count in
       let b = commands_parts old in
       let c = commands_parts (with_turn t turns old) in
@@ -274,8 +183,10 @@ module _ (meaning : Meaning) (script : Script) where
   at_most_one xs x = let l = one_more xs x in omega (arith, l)
 
   -- an item has at most one command
-  one_command : (call item : ℕ) (play : Play) (bound : List Range) (old new : Core) (n : Plays First_choices script call item play bound old new)
-      → length (result_of First_choices script call item play bound old new n).commands ≤ suc (length old.open_chunk.commands)
+  one_command : (call item : ℕ) (play : Play) (bound : List Range) (old new : Core)
+      (n : Plays First_choices script call item play bound old new)
+      → length (result_of First_choices script call item play bound old new n).commands ≤ suc
+      (length old.open_chunk.commands)
   one_command call item (Create buffer bytes) bound old new n = omega arith
   one_command call item (Discard buffer from bytes) bound old new n = omega arith
   one_command call item (No_overwrite buffer from bytes) bound old new n = omega arith
@@ -288,8 +199,10 @@ module _ (meaning : Meaning) (script : Script) where
   one_command call item (Mark_query query begins) bound old new n = omega arith
   one_command call item Set_state bound old new n = omega arith
 
-  item_nearer : (old : Core) (call item : ℕ) (ends : Bool) (play : Play) (bound : List Range) (turns : List Turn) (new : Core) → old.future ≡ Item call item ends play bound ∷ turns
-      → Plays First_choices script call item play bound (with_turn (Item call item ends play bound) turns old) new → distance new < distance old
+  item_nearer : (old : Core) (call item : ℕ) (ends : Bool) (play : Play) (bound : List Range) (turns : List Turn)
+      (new : Core) → old.future ≡ Item call item ends play bound ∷ turns
+      → Plays First_choices script call item play bound (with_turn (Item call item ends play bound) turns old) new
+      → distance new < distance old
   item_nearer old call item ends play bound turns new e n =
       let t = Item call item ends play bound in
       let taken = with_turn t turns old in
@@ -304,9 +217,11 @@ module _ (meaning : Meaning) (script : Script) where
       let f = created_parts old.chunks next.open_chunk in
       let g = created_last old.open_chunk.turns t in
       let h = one_created t in
-      subst (λ c. distance c < distance old) (sym (result_is First_choices script call item play bound taken new n)) (omega (arith, future, few, eight_new, b, c, d, f, g, h))
+      subst (λ c. distance c < distance old) (sym (result_is First_choices script call item play bound taken new n))
+      (omega (arith, future, few, eight_new, b, c, d, f, g, h))
 
-  read_stays : (call : ℕ) (ask : Ask) (used : Option ℕ) (core : Core) → distance (answer call ask used core) ≡ distance core
+  read_stays : (call : ℕ) (ask : Ask) (used : Option ℕ) (core : Core)
+      → distance (answer call ask used core) ≡ distance core
   read_stays call (Bytes source) None core = refl
   read_stays call (Bytes source) (Some used) core =
       let b = commands_parts core in
@@ -317,15 +232,22 @@ module _ (meaning : Meaning) (script : Script) where
   read_stays call (Count query) used core = refl
   read_stays call (Constant value) used core = refl
 
-  take_nearer : (old : Core) (t : Turn) (turns : List Turn) (new : Core) → old.future ≡ t ∷ turns → TakesTurn First_choices script t turns old new → distance new < distance old
-  take_nearer old (Refused call) turns new e n = subst (λ c. distance c < distance old) (sym n) (turn_nearer old (Refused call) turns e refl)
-  take_nearer old (Passed call) turns new e n = subst (λ c. distance c < distance old) (sym n) (turn_nearer old (Passed call) turns e refl)
-  take_nearer old (Flushed call) turns new e n = subst (λ c. distance c < distance old) (sym n) (turn_nearer old (Flushed call) turns e refl)
+  take_nearer : (old : Core) (t : Turn) (turns : List Turn) (new : Core) → old.future ≡ t ∷ turns
+      → TakesTurn First_choices script t turns old new → distance new < distance old
+  take_nearer old (Refused call) turns new e n = subst (λ c. distance c < distance old) (sym n)
+      (turn_nearer old (Refused call) turns e refl)
+  take_nearer old (Passed call) turns new e n = subst (λ c. distance c < distance old) (sym n)
+      (turn_nearer old (Passed call) turns e refl)
+  take_nearer old (Flushed call) turns new e n = subst (λ c. distance c < distance old) (sym n)
+      (turn_nearer old (Flushed call) turns e refl)
   take_nearer old (Asked call ask used may_pend) turns new e (inl n) =
       let t = Asked call ask used may_pend in
-      subst (λ c. distance c < distance old) (sym n.1) (subst (λ d. d < distance old) (sym (read_stays call ask used (with_turn t turns old))) (turn_nearer old t turns e refl))
-  take_nearer old (Asked call ask used may_pend) turns new e (inr n) = subst (λ c. distance c < distance old) (sym n.2) (turn_nearer old (Asked call ask used may_pend) turns e refl)
-  take_nearer old (Item call item ends play bound) turns new e n = item_nearer old call item ends play bound turns new e n
+      subst (λ c. distance c < distance old) (sym n.1) (subst (λ d. d < distance old)
+      (sym (read_stays call ask used (with_turn t turns old))) (turn_nearer old t turns e refl))
+  take_nearer old (Asked call ask used may_pend) turns new e (inr n) =
+      subst (λ c. distance c < distance old) (sym n.2) (turn_nearer old (Asked call ask used may_pend) turns e refl)
+  take_nearer old (Item call item ends play bound) turns new e n =
+      item_nearer old call item ends play bound turns new e n
 
   act_nearer : (old new : Core) → Acts First_choices script old new → distance new < distance old
   act_nearer old new a = elim a.1 [
@@ -336,7 +258,8 @@ module _ (meaning : Meaning) (script : Script) where
     ]
   ]
 
-  app_nearer : (n : ℕ) (old new : Core) → Step meaning First_choices script old (App n) new → distance new < distance old
+  app_nearer : (n : ℕ) (old new : Core) → Step meaning First_choices script old (App n) new
+      → distance new < distance old
   app_nearer n old new p =
       let m = posts_nearer n old p.2 p.3 in
       let f = fence_stays n p.2 in

@@ -12,31 +12,41 @@ use Rattle.core_model.proofs.Ends.CoreReached.{Ready, ready_start, ready_step}
 use Rattle.core_model.proofs.Ends.Enabled.{decide, some_goes, taken_step}
 
 module _ (meaning : Meaning) (script : Script) (lawful : IsLawful meaning script) where
-  pub ready_follows : (bytes : List ℕ) (old new : Core) → Follows meaning script old bytes new → Ready meaning script lawful old → Ready meaning script lawful new
+  pub ready_follows : (bytes : List ℕ) (old new : Core) → Follows meaning script old bytes new
+      → Ready meaning script lawful old → Ready meaning script lawful new
   ready_follows [] old new h r = subst (Ready meaning script lawful) (sym h) r
   ready_follows (byte ∷ bytes) old new h r = ready_follows bytes h.0 new h.2 (elim h.1 [
     | inl s ↦ ready_step meaning script lawful old (event_in old (actor_of byte)) h.0 s r
     | inr s ↦ subst (Ready meaning script lawful) (sym s.1) r
   ])
 
-  pub ready_first : (old new : Core) → FirstEnabled meaning script old settling new → Ready meaning script lawful old → Ready meaning script lawful new
-  ready_first old new f r = let s = taken_step meaning script old settling new f in ready_step meaning script lawful old (event_in old s.0) new s.1 r
+  pub ready_first : (old new : Core) → FirstEnabled meaning script old settling new
+      → Ready meaning script lawful old → Ready meaning script lawful new
+  ready_first old new f r = let s = taken_step meaning script old settling new f in
+      ready_step meaning script lawful old (event_in old s.0) new s.1 r
 
-  pub ready_settles : (old new : Core) → Settles meaning script old new → Ready meaning script lawful old → Ready meaning script lawful new
+  pub ready_settles : (old new : Core) → Settles meaning script old new → Ready meaning script lawful old
+      → Ready meaning script lawful new
   ready_settles old new (At_end _ e) r = r
   ready_settles old new (Settling _ mid _ f s) r = ready_settles mid new s (ready_first old mid f r)
 
-  pub ready_run : (schedule : List ℕ) (core : Core) → IsRun meaning script schedule core → Ready meaning script lawful core
-  ready_run schedule core h = ready_settles h.0 core h.2 (ready_follows schedule (start script) h.0 h.1 (ready_start meaning script lawful))
+  pub ready_run : (schedule : List ℕ) (core : Core) → IsRun meaning script schedule core
+      → Ready meaning script lawful core
+  ready_run schedule core h =
+      ready_settles h.0 core h.2 (ready_follows schedule (start script) h.0 h.1 (ready_start meaning script lawful))
 
-  follows : (bytes : List ℕ) (core : Core) → Ready meaning script lawful core → (new : Core) × Follows meaning script core bytes new
+  follows : (bytes : List ℕ) (core : Core) → Ready meaning script lawful core → (new : Core)
+      × Follows meaning script core bytes new
   follows [] core r = (core, refl)
   follows (byte ∷ bytes) core r = elim (decide meaning script lawful core r (actor_of byte)) [
-    | inl x ↦ let f = follows bytes x.0 (ready_step meaning script lawful core (event_in core (actor_of byte)) x.0 x.1 r) in (f.0, (x.0, inl x.1, f.1))
+    | inl x ↦ let f =
+        follows bytes x.0 (ready_step meaning script lawful core (event_in core (actor_of byte)) x.0 x.1 r) in
+        (f.0, (x.0, inl x.1, f.1))
     | inr n ↦ let f = follows bytes core r in (f.0, (core, inr (n, refl), f.1))
   ]
 
-  settles : (fuel : ℕ) (core : Core) → Ready meaning script lawful core → distance core < fuel → (new : Core) × Settles meaning script core new
+  settles : (fuel : ℕ) (core : Core) → Ready meaning script lawful core → distance core < fuel → (new : Core)
+      × Settles meaning script core new
   settles zero core r l = absurd (omega (arith, l))
   settles (suc fuel) core r l = elim (cases_Bool core.ended) [
     | inl t ↦ (core, At_end core t)

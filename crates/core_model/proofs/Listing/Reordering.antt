@@ -5,7 +5,8 @@ use Rattle.base_lemmas.specs.Lists.{IsReordering}
 module _ {A : Type 0} where
   -- where an element of two lists together stands
   abbrev Splits : List A → List A → List A → A → List A → Type 0
-  Splits h k f x b = ((h2 : List A) × (h ≡ f ++ x ∷ h2) × (b ≡ h2 ++ k)) ⊎ ((k1 : List A) × (k ≡ k1 ++ x ∷ b) × (f ≡ h ++ k1))
+  Splits h k f x b = ((h2 : List A) × (h ≡ f ++ x ∷ h2) × (b ≡ h2 ++ k))
+      ⊎ ((k1 : List A) × (k ≡ k1 ++ x ∷ b) × (f ≡ h ++ k1))
 
   splits : (h k f : List A) (x : A) (b : List A) → h ++ k ≡ f ++ x ∷ b → Splits h k f x b
   splits [] k f x b e = inr (f, e, refl)
@@ -35,14 +36,25 @@ module _ {A : Type 0} where
               f',
               h2 ++ g ∷ k,
               r.2 ∙ ap (λ l. l ++ g ∷ k) l.1 ∙ append_assoc f' (x ∷ h2) (g ∷ k),
-              (f' ++ h2, k, sym (append_assoc f' h2 (g ∷ k)), subst (IsReordering (f ++ b)) (ap (λ l. f' ++ l) l.2 ∙ sym (append_assoc f' h2 k)) i.3),
+              (
+                f' ++ h2,
+                k,
+                sym (append_assoc f' h2 (g ∷ k)),
+                subst (IsReordering (f ++ b)) (ap (λ l. f' ++ l) l.2 ∙ sym (append_assoc f' h2 k)) i.3,
+              ),
             )
         | inr m ↦
             let k1 = m.0 in (
               h ++ g ∷ k1,
               b',
               r.2 ∙ ap (λ l. h ++ g ∷ l) m.1 ∙ sym (append_assoc h (g ∷ k1) (x ∷ b')),
-              (h, k1 ++ b', append_assoc h (g ∷ k1) b', subst (IsReordering (f ++ b)) (ap (λ l. l ++ b') m.2 ∙ append_assoc h k1 b') i.3),
+              (
+                h,
+                k1 ++ b',
+                append_assoc h (g ∷ k1) b',
+                subst (IsReordering (f ++ b)) (ap (λ l. l ++ b') m.2
+                    ∙ append_assoc h k1 b') i.3,
+              ),
             )
       ]
 
@@ -56,7 +68,8 @@ module _ {A : Type 0} where
   reordering_self [] = refl
   reordering_self (x ∷ xs) = ([], xs, refl, reordering_self xs)
 
-  pub reordering_append : (xs ys us vs : List A) → IsReordering xs ys → IsReordering us vs → IsReordering (xs ++ us) (ys ++ vs)
+  pub reordering_append : (xs ys us vs : List A) → IsReordering xs ys → IsReordering us vs
+      → IsReordering (xs ++ us) (ys ++ vs)
   reordering_append [] ys us vs e r = subst (λ l. IsReordering us (l ++ vs)) (sym e) r
   reordering_append (x ∷ xs) ys us vs p r = (
     p.0,
@@ -70,7 +83,9 @@ module _ {A : Type 0} where
   to_front x (q ∷ p) o = (x ∷ [], p ++ o, refl, to_front x p o)
 
   -- an element may be moved to the front of the second part
-  pub reordering_moved : (xs done p : List A) (x : A) (o : List A) → IsReordering xs (done ++ (p ++ x ∷ o)) → IsReordering xs ((done ++ x ∷ []) ++ (p ++ o))
+  pub reordering_moved : (xs done p : List A) (x : A) (o : List A) → IsReordering xs (done ++ (p ++ x ∷ o))
+      → IsReordering xs ((done ++ x ∷ []) ++ (p ++ o))
   reordering_moved xs done p x o r =
       subst (IsReordering xs) (sym (append_assoc done (x ∷ []) (p ++ o)))
-      (reordering_then xs (done ++ (p ++ x ∷ o)) (done ++ x ∷ (p ++ o)) r (reordering_append done done (p ++ x ∷ o) (x ∷ (p ++ o)) (reordering_self done) (to_front x p o)))
+      (reordering_then xs (done ++ (p ++ x ∷ o)) (done ++ x ∷ (p ++ o)) r
+      (reordering_append done done (p ++ x ∷ o) (x ∷ (p ++ o)) (reordering_self done) (to_front x p o)))

@@ -13,4 +13,5 @@ pub touched_front : (ts us : List Touch) (b i : ℕ) → is_touched ts b i ≡ t
 touched_front ts us b i h = list_any-append (λ t. covers t.range b i) ts us ∙ ap (λ v. v || is_touched us b i) h
 
 pub touched_back : (ts us : List Touch) (b i : ℕ) → is_touched us b i ≡ true → is_touched (ts ++ us) b i ≡ true
-touched_back ts us b i h = list_any-append (λ t. covers t.range b i) ts us ∙ ap (λ v. is_touched ts b i || v) h ∙ or_right (is_touched ts b i)
+touched_back ts us b i h = list_any-append (λ t. covers t.range b i) ts us ∙ ap (λ v. is_touched ts b i || v) h
+    ∙ or_right (is_touched ts b i)

@@ -1,5 +1,6 @@
 -- What is made of messages, batch behind batch, is a listing of batches: each has the barriers that its hazards cause.
-use Rattle.std.proofs.Common.{◌≡◌, ℕ, suc, ◌+◌, Bool, true, false, List, [], ◌∷◌, ◌++◌, length, take, refl, sym, ap, ◌∙◌, subst, Option, Some, None, arith, append_assoc, append-nil, length-append}
+use Rattle.std.proofs.Common.{◌≡◌, ℕ, suc, ◌+◌, Bool, true, false, List, [], ◌∷◌, ◌++◌, length, take, refl, sym, ap}
+use Rattle.std.proofs.Common.{◌∙◌, subst, Option, Some, None, arith, append_assoc, append-nil, length-append}
 use mathlib.Core.Path.{fun_ext}
 use Rattle.std.specs.List.{AllByRecursion}
 use Rattle.dx_types.specs.declared.range.Range.{Range}
@@ -12,9 +13,13 @@ use Rattle.vk_types.specs.declared.op.VkOp.TheVariants as op
 use Rattle.vk_types.specs.BarrierCauses.{barrier_before, least_writer, host_barrier, maybe_barrier}
 use Rattle.vk_types.specs.RunListing.{IsNumbered, IsWhole, IsRunListing}
 use Rattle.base_lemmas.proofs.Lists.{all_append}
-use Rattle.core_model.specs.Script.{Play, Create, Discard, No_overwrite, Stage, Command as Command_play, Destroy, Create_shader, Mark_query, Set_state, Turn, Refused, Passed, Flushed, Asked, Item, Script}
+use Rattle.core_model.specs.Script.{Play, Create, Discard, No_overwrite, Stage, Command as Command_play, Destroy}
+use Rattle.core_model.specs.Script.{Create_shader, Mark_query, Set_state, Turn, Refused, Passed, Flushed, Asked, Item}
+use Rattle.core_model.specs.Script.{Script}
 use Rattle.core_model.specs.Chunking.{chunk_turns}
-use Rattle.core_model.specs.Batching.{Made, nothing_made, next_chunk, make_write, add_command, give_block, make_copy, make_staged, make_play, first_place, other_places, make_turns, make_chunks, made, batch_ops}
+use Rattle.core_model.specs.Batching.{Made, nothing_made, next_chunk, make_write, add_command, give_block, make_copy}
+use Rattle.core_model.specs.Batching.{make_staged, make_play, first_place, other_places, make_turns, make_chunks}
+use Rattle.core_model.specs.Batching.{made, batch_ops}
 use Rattle.core_model.specs.BatchOrder.{barriers_by, IsBatchListing, ops_from, ops_of, staging_at}
 use Rattle.core_model.specs.Listed.{ListState, after_op, after_ops, is_of_device}
 use Rattle.core_model.proofs.Listing.Growing.{after_append, numbers_append, whole_append}
@@ -55,7 +60,8 @@ device_numbers (op.Submit k ∷ ops) h n = let z = h.0 in absurd (cc z)
 device_numbers (op.Fence k ∷ ops) h n = let z = h.0 in absurd (cc z)
 device_numbers (op.HostRead r call ∷ ops) h n = device_numbers ops h.1 n
 
-device_whole : (ops : List VkOp) → AllByRecursion (λ o. is_of_device o ≡ true) ops → (inside : Bool) → IsWhole inside ops
+device_whole : (ops : List VkOp) → AllByRecursion (λ o. is_of_device o ≡ true) ops → (inside : Bool)
+    → IsWhole inside ops
 device_whole [] h inside = tt
 device_whole (op.HostWrite r call ∷ ops) h inside = let z = h.0 in absurd (cc z)
 device_whole (op.Pipeline shader ∷ ops) h inside = device_whole ops h.1 inside
@@ -65,7 +71,7 @@ device_whole (op.Submit k ∷ ops) h inside = let z = h.0 in absurd (cc z)
 device_whole (op.Fence k ∷ ops) h inside = let z = h.0 in absurd (cc z)
 device_whole (op.HostRead r call ∷ ops) h inside = let z = h.0 in absurd (cc z)
 
--- A chunk's operations as its items make them --------------------------------------------------------------------------
+-- A chunk's operations as its items make them -----------------------------------------------------------------------
 
 -- a chunk begins behind these commands since the last barrier
 abbrev begun : List Command → ℕ → ListState
@@ -82,7 +88,14 @@ module _ (staging : ℕ → ℕ → Bool) (recent : List Command) (k : ℕ) wher
 
   write_grown : (r : Range) (bytes : List ℕ) (m : Made) → Grown m → Grown (make_write r bytes m)
   write_grown r [] m h = h
-  write_grown r (b ∷ bs) m h = record { barriers = h.barriers; now = h.now; lists = h.lists; next = h.next; device = h.device }
+  write_grown r (b ∷ bs) m h = record {
+    barriers = h.barriers;
+    now = h.now;
+    lists = h.lists;
+    next = h.next;
+    device =
+        h.device;
+  }
 
   give_grown : (script : Script) (buffer : ℕ) (o : Option ℕ) (m : Made) → Grown m → Grown (give_block script buffer o m)
   give_grown script buffer None m h = h
@@ -143,7 +156,8 @@ module _ (staging : ℕ → ℕ → Bool) (recent : List Command) (k : ℕ) wher
 
   play_grown : (script : Script) (call : ℕ) (play : Play) (bound : List Range) (p : Placed) (m : Made) → Grown m
       → Grown (make_play script call play bound p m)
-  play_grown script call (Create buffer bytes) bound p m h = write_grown _ bytes _ (give_grown script buffer p.block m h)
+  play_grown script call (Create buffer bytes) bound p m h =
+      write_grown _ bytes _ (give_grown script buffer p.block m h)
   play_grown script call (Discard buffer from bytes) bound p m h =
       write_grown _ bytes _ (give_grown script buffer p.block m h)
   play_grown script call (No_overwrite buffer from bytes) bound p m h = write_grown _ bytes m h
@@ -168,7 +182,7 @@ module _ (staging : ℕ → ℕ → Bool) (recent : List Command) (k : ℕ) wher
       turns_grown script ts (other_places ps) (make_play script call play bound (first_place ps) m)
       (play_grown script call play bound (first_place ps) m h)
 
-  -- The batch as a whole ------------------------------------------------------------------------------------------------
+  -- The batch as a whole --------------------------------------------------------------------------------------------
 
   end_by : (now batch : List Command) (o : Option ℕ)
       → barriers_by staging now batch (batch_end o k) ≡ batch_end (least_writer (staging k) batch) k
@@ -210,7 +224,7 @@ module _ (staging : ℕ → ℕ → Bool) (recent : List Command) (k : ℕ) wher
             whole_append (begun recent k) m.ops e (device_whole m.ops h.device false) (end_whole o k s.inside);
       }
 
--- Batch behind batch -------------------------------------------------------------------------------------------------------
+-- Batch behind batch ------------------------------------------------------------------------------------------------
 
 -- what the next chunk makes
 abbrev next_made : Script → ℕ → List Placed → Made → Made
@@ -243,7 +257,8 @@ go_on script staging (ps ∷ pss) k m h =
       barriers =
           ap (λ l. batch_ops n k ++ l) r.barriers
           ∙ ap (λ l. l ++ barriers_by staging n.recent [] rest) b.barriers
-          ∙ ap (λ s. barriers_by staging m.recent [] (batch_ops n k) ++ barriers_by staging s.recent s.batch rest) (sym b.after)
+          ∙ ap (λ s. barriers_by staging m.recent [] (batch_ops n k) ++ barriers_by staging s.recent s.batch rest)
+          (sym b.after)
           ∙ sym (by_append staging (begun m.recent k) (batch_ops n k) rest);
       numbers =
           numbers_append (begun m.recent k) (batch_ops n k) rest b.numbers
@@ -253,7 +268,7 @@ go_on script staging (ps ∷ pss) k m h =
           (subst (λ s. IsWhole s.inside rest) (sym b.after) r.whole);
     }
 
--- the staging blocks are those of what was made up to the chunk ------------------------------------------------------------
+-- the staging blocks are those of what was made up to the chunk -----------------------------------------------------
 
 pub chunks_append : (script : Script) (k : ℕ) (xs ys : List (List Placed)) (m : Made)
     → make_chunks script k (xs ++ ys) m ≡ make_chunks script (k + length xs) ys (make_chunks script k xs m)
@@ -270,13 +285,17 @@ take_front [] y ys = refl
 take_front (x ∷ xs) y ys = ap (λ l. x ∷ l) (take_front xs y ys)
 
 are_staging : (script : Script) (pss front : List (List Placed))
-    → AreStaging script (staging_at script (front ++ pss)) (suc (length front)) pss (make_chunks script 1 front nothing_made)
+    → AreStaging script (staging_at script (front ++ pss)) (suc (length front)) pss
+    (make_chunks script 1 front nothing_made)
 are_staging script [] front = tt
 are_staging script (ps ∷ pss) front =
     let n = next_made script (suc (length front)) ps (make_chunks script 1 front nothing_made) in
-    let one : make_chunks script 1 (front ++ ps ∷ []) nothing_made ≡ n = chunks_append script 1 front (ps ∷ []) nothing_made
-    ∙ ap (λ j. next_made script j ps (make_chunks script 1 front nothing_made)) (let z : 1 + length front ≡ suc (length front) = omega arith in z) in
-    let long : length (front ++ ps ∷ []) ≡ suc (length front) = let l = length-append front (ps ∷ []) in omega (arith, l) in
+    let one : make_chunks script 1 (front ++ ps ∷ []) nothing_made ≡ n =
+    chunks_append script 1 front (ps ∷ []) nothing_made
+    ∙ ap (λ j. next_made script j ps (make_chunks script 1 front nothing_made))
+    (let z : 1 + length front ≡ suc (length front) = omega arith in z) in
+    let long : length (front ++ ps ∷ []) ≡ suc (length front) = let l = length-append front (ps ∷ []) in
+    omega (arith, l) in
     let again = are_staging script pss (front ++ ps ∷ []) in (
       ap (λ l. (made script l).is_staging) (take_front front ps pss) ∙ ap (λ m. m.is_staging) one,
       subst (λ m. AreStaging script (staging_at script (front ++ ps ∷ pss)) (suc (suc (length front))) pss m) one
@@ -286,15 +305,17 @@ are_staging script (ps ∷ pss) front =
           (make_chunks script 1 (front ++ ps ∷ []) nothing_made)) (append_assoc front (ps ∷ []) pss) again)),
     )
 
--- The laws -------------------------------------------------------------------------------------------------------------------
+-- The laws ----------------------------------------------------------------------------------------------------------
 
-pub batches_listed : (script : Script) (pss : List (List Placed)) → IsBatchListing (staging_at script pss) (ops_of script pss)
+pub batches_listed : (script : Script) (pss : List (List Placed))
+    → IsBatchListing (staging_at script pss) (ops_of script pss)
 batches_listed script pss =
     let g = go_on script (staging_at script pss) pss 1 nothing_made (are_staging script pss []) in
     record { barriers = g.barriers; numbers = g.numbers; whole = g.whole }
 
 ops_append : (script : Script) (k : ℕ) (xs ys : List (List Placed)) (m : Made)
-    → ops_from script k (xs ++ ys) m ≡ ops_from script k xs m ++ ops_from script (k + length xs) ys (make_chunks script k xs m)
+    → ops_from script k (xs ++ ys) m ≡ ops_from script k xs m
+    ++ ops_from script (k + length xs) ys (make_chunks script k xs m)
 ops_append script k [] ys m = ap (λ n. ops_from script n ys m) (let z : k ≡ k + 0 = omega arith in z)
 ops_append script k (x ∷ xs) ys m =
     let n = next_made script k x m in
@@ -305,13 +326,15 @@ ops_append script k (x ∷ xs) ys m =
     ∙ sym (append_assoc (batch_ops n k) (ops_from script (suc k) xs n) _)
 
 pub one_more : (script : Script) (front : List (List Placed)) (ps : List Placed)
-    → ops_of script (front ++ ps ∷ []) ≡ ops_of script front ++ batch_ops (made script (front ++ ps ∷ [])) (suc (length front))
+    → ops_of script (front ++ ps ∷ []) ≡ ops_of script front
+    ++ batch_ops (made script (front ++ ps ∷ [])) (suc (length front))
 one_more script front ps =
     let m = make_chunks script 1 front nothing_made in
     let is : 1 + length front ≡ suc (length front) = omega arith in
     ops_append script 1 front (ps ∷ []) nothing_made
     ∙ ap (λ j. ops_of script front ++ (batch_ops (next_made script j ps m) j ++ [])) is
-    ∙ ap (λ l. ops_of script front ++ l) (append-nil (batch_ops (next_made script (suc (length front)) ps m) (suc (length front))))
+    ∙ ap (λ l. ops_of script front ++ l)
+    (append-nil (batch_ops (next_made script (suc (length front)) ps m) (suc (length front))))
     ∙ ap (λ n. ops_of script front ++ batch_ops n (suc (length front)))
     (sym (chunks_append script 1 front (ps ∷ []) nothing_made
     ∙ ap (λ j. next_made script j ps m) is))
@@ -329,4 +352,9 @@ steady_batches staging script pss same =
     let h = same_staging script (staging_at script pss) (λ k. staging) pss 0 nothing_made
     (λ j. fun_ext (same j)) (are_staging script pss []) in
     let g = go_on script (λ k. staging) pss 1 nothing_made h in
-    record { barriers = g.barriers ∙ sym (steady_barriers staging (ops_of script pss) [] []); numbers = g.numbers; whole = g.whole }
+    record {
+      barriers = g.barriers ∙ sym (steady_barriers staging (ops_of script pss) [] []);
+      numbers =
+          g.numbers;
+      whole = g.whole;
+    }

@@ -1,5 +1,7 @@
--- Messages that succeed each other, by their heads: the turns of their chunks, the blocks that their places give, what they make.
-use Rattle.std.proofs.Common.{◌≡◌, ℕ, suc, ◌+◌, ◌≤◌, Bool, true, false, cond, List, [], ◌∷◌, ◌++◌, map, length, refl, sym, ap, ◌∙◌, subst, arith, append_assoc, append-nil, length-append}
+-- Messages that succeed each other, by their heads: the turns of their chunks, the blocks that their places give,
+-- what they make.
+use Rattle.std.proofs.Common.{◌≡◌, ℕ, suc, ◌+◌, ◌≤◌, Bool, true, false, cond, List, [], ◌∷◌, ◌++◌, map, length, refl}
+use Rattle.std.proofs.Common.{sym, ap, ◌∙◌, subst, arith, append_assoc, append-nil, length-append}
 use Rattle.std.specs.List.{AllByRecursion}
 use Rattle.vk_types.specs.declared.message.Placed.{Placed}
 use Rattle.base_lemmas.specs.Lists.{numbers_from}
@@ -9,8 +11,10 @@ use Rattle.core_model.specs.Renaming.{BlockMap}
 use Rattle.core_model.specs.CoreState.{Segment, empty_segment}
 use Rattle.core_model.specs.Batching.{Made, nothing_made, next_chunk, make_turns, make_chunks}
 use Rattle.core_model.specs.Invariant.{turns_of}
-use Rattle.core_model.specs.Succession.{Head, Log, FollowsHead, item_of, PlacesPlay, GivesBlocks, turns_upto, all_places, places_in}
+use Rattle.core_model.specs.Succession.{Head, Log, FollowsHead, item_of, PlacesPlay, GivesBlocks, turns_upto}
+use Rattle.core_model.specs.Succession.{all_places, places_in}
 use Rattle.core_model.specs.Spine.{Succeeds, made_of}
+use Rattle.core_model.proofs.Steps.Segments.{turns_of-append}
 use Rattle.core_model.proofs.Steps.Uses.{map_append}
 use Rattle.core_model.proofs.Messages.ScriptChunks.{chunk_is}
 use Rattle.core_model.proofs.Messages.Placements.{GivesTo, GivesLine, line_parts, places_of, all_places_append}
@@ -18,9 +22,10 @@ use Rattle.core_model.proofs.Messages.Succeeding.{no_blocks}
 use Rattle.core_model.proofs.Messages.MadeLines.{made_blocks}
 use Rattle.core_model.proofs.Messages.BatchesInTurn.{chunks_append}
 
--- The chunks of a script are its first turns ------------------------------------------------------------------------------
+-- The chunks of a script are its first turns ------------------------------------------------------------------------
 
-cut_joined : (script : Script) (ts begun : List Turn) → (rest : List Turn) × (begun ++ ts ≡ joined (cut script begun ts) ++ rest)
+cut_joined : (script : Script) (ts begun : List Turn) → (rest : List Turn)
+    × (begun ++ ts ≡ joined (cut script begun ts) ++ rest)
 cut_joined script [] begun = by (is_due script begun [])
   where
     by : (due : Bool) → (rest : List Turn) × (begun ++ [] ≡ joined (cond due (begun ∷ []) []) ++ rest)
@@ -32,11 +37,12 @@ cut_joined script (t ∷ ts) begun =
     by : (due : Bool) → ((rest : List Turn) × (t ∷ ts ≡ joined (cut script (t ∷ []) ts) ++ rest))
         → ((rest : List Turn) × ((begun ++ t ∷ []) ++ ts ≡ joined (cut script (begun ++ t ∷ []) ts) ++ rest))
         → (rest : List Turn)
-        × (begun ++ t ∷ ts ≡ joined (cond due (begun ∷ cut script (t ∷ []) ts) (cut script (begun ++ t ∷ []) ts)) ++ rest)
+        × (begun ++ t ∷ ts ≡ joined (cond due (begun ∷ cut script (t ∷ []) ts) (cut script (begun ++ t ∷ []) ts))
+        ++ rest)
     by true r s = (r.0, ap (λ l. begun ++ l) r.1 ∙ sym (append_assoc begun (joined (cut script (t ∷ []) ts)) r.0))
     by false r s = (s.0, sym (append_assoc begun (t ∷ []) ts) ∙ s.1)
 
--- Heads as chunks --------------------------------------------------------------------------------------------------------
+-- Heads as chunks ---------------------------------------------------------------------------------------------------
 
 abbrev pub chunk_of : Script → ℕ → Head → Segment
 chunk_of script k h = record empty_segment { turns = chunk_turns script k; placed = h.placed }
@@ -55,7 +61,7 @@ turns_numbered : (script : Script) (k : ℕ) (hs : List Head)
 turns_numbered script k [] = refl
 turns_numbered script k (h ∷ hs) = ap (λ l. chunk_turns script k ∷ l) (turns_numbered script (suc k) hs)
 
-heads_append : (script : Script) (k : ℕ) (xs ys : List Head)
+pub heads_append : (script : Script) (k : ℕ) (xs ys : List Head)
     → chunks_of script k (xs ++ ys) ≡ chunks_of script k xs ++ chunks_of script (k + length xs) ys
 heads_append script k [] ys = ap (λ n. chunks_of script n ys) (let z : k ≡ k + 0 = omega arith in z)
 heads_append script k (x ∷ xs) ys =
@@ -71,9 +77,11 @@ pub heads_last : (script : Script) (front : List Head) (h : Head)
     → chunks_of script 1 (front ++ h ∷ []) ≡ chunks_of script 1 front ++ chunk_of script (suc (length front)) h ∷ []
 heads_last script front h =
     heads_append script 1 front (h ∷ [])
-    ∙ ap (λ n. chunks_of script 1 front ++ chunk_of script n h ∷ []) (let z : 1 + length front ≡ suc (length front) = omega arith in z)
+    ∙ ap (λ n. chunks_of script 1 front ++ chunk_of script n h ∷ [])
+    (let z : 1 + length front ≡ suc (length front) = omega arith in z)
 
-chunks_split : (script : Script) (pre ys : List (List Turn)) (hs : List Head) → chunks script ≡ pre ++ ys → length hs ≤ length ys
+chunks_split : (script : Script) (pre ys : List (List Turn)) (hs : List Head) → chunks script ≡ pre ++ ys
+    → length hs ≤ length ys
     → (rest : List (List Turn)) × (ys ≡ turns_of (chunks_of script (suc (length pre)) hs) ++ rest)
 chunks_split script pre ys [] e l = (ys, refl)
 chunks_split script pre [] (x ∷ hs) e l = absurd (let z : ⊥ = omega (arith, l) in z)
@@ -92,7 +100,7 @@ places_of_last front h =
     ∙ all_places_append (places_in front) (h.placed ∷ [])
     ∙ ap (λ l. all_places (places_in front) ++ l) (append-nil h.placed)
 
--- The places give blocks, chunk by chunk ------------------------------------------------------------------------------------
+-- The places give blocks, chunk by chunk ----------------------------------------------------------------------------
 
 gives_parts : (script : Script) (ts us : List Turn) (ps qs : List Placed) (old : BlockMap)
     → GivesBlocks script (ts ++ us) (ps ++ qs) old → map item_of ps ≡ items ts
@@ -112,7 +120,16 @@ gives_parts script (Item call item ends play bound ∷ ts) us (p ∷ ps) qs old 
     let more : map item_of ps ≡ items ts = cc e in
     let r = gives_parts script ts us ps qs g.3 (subst (λ l. GivesBlocks script (ts ++ us) l g.3) others g.5) more in (
       r.0,
-      (p, ps, refl, g.3, subst (λ p. PlacesPlay script play p old g.3) first g.4, ap (λ n. n.call) number, ap (λ n. n.item) number, r.1),
+      (
+        p,
+        ps,
+        refl,
+        g.3,
+        subst (λ p. PlacesPlay script play p old g.3) first g.4,
+        ap (λ n. n.call) number,
+        ap (λ n. n.item) number,
+        r.1,
+      ),
       r.2,
     )
 
@@ -135,18 +152,20 @@ all_items : (log : Log) (pre hs : List Head) → Succeeds log (pre ++ hs)
 all_items log pre [] h = tt
 all_items log pre (x ∷ hs) h = (
   (h pre x hs refl).of_chunk.items,
-  subst (λ n. AllByRecursion (λ s. map item_of s.placed ≡ items s.turns) (chunks_of log.script (suc n) hs)) (one_longer pre x)
+  subst (λ n. AllByRecursion (λ s. map item_of s.placed ≡ items s.turns) (chunks_of log.script (suc n) hs))
+      (one_longer pre x)
       (all_items log (pre ++ x ∷ []) hs (subst (Succeeds log) (sym (append_assoc pre (x ∷ []) hs)) h)),
 )
 
-line_blocks : (script : Script) (k : ℕ) (hs : List Head) (m : Made) (old new : BlockMap)
-    → GivesLine script old (chunks_of script k hs) new → m.blocks ≡ old → (make_chunks script k (places_in hs) m).blocks ≡ new
+pub line_blocks : (script : Script) (k : ℕ) (hs : List Head) (m : Made) (old new : BlockMap)
+    → GivesLine script old (chunks_of script k hs) new → m.blocks ≡ old
+    → (make_chunks script k (places_in hs) m).blocks ≡ new
 line_blocks script k [] m old new g e = e ∙ sym g
 line_blocks script k (h ∷ hs) m old new g e =
     line_blocks script (suc k) hs (make_turns script (chunk_turns script k) h.placed (next_chunk m)) g.0 new g.2
     (made_blocks script (chunk_turns script k) h.placed old g.0 (next_chunk m) g.1 e)
 
--- The last message ---------------------------------------------------------------------------------------------------------
+-- The last message --------------------------------------------------------------------------------------------------
 
 pub record LastOf (log : Log) (front : List Head) (h : Head) : Type 0 where
   pub before : BlockMap
@@ -156,14 +175,18 @@ pub record LastOf (log : Log) (front : List Head) (h : Head) : Type 0 where
   pub back : List Turn
   pub turns : log.script.turns
       ≡ joined (turns_of (chunks_of log.script 1 front)) ++ (chunk_turns log.script (suc (length front)) ++ back)
+  pub rest : List (List Turn)
+  pub cut : chunks log.script ≡ turns_of (chunks_of log.script 1 front)
+      ++ chunk_turns log.script (suc (length front)) ∷ rest
   pub made_before : (made_of log front).blocks ≡ before
   pub made_here : made_of log (front ++ h ∷ [])
       ≡ make_turns log.script (chunk_turns log.script (suc (length front))) h.placed (next_chunk (made_of log front))
   pub follows : FollowsHead log front h
 
-joined_last : (xs : List Segment) (s : Segment) → joined (turns_of (xs ++ s ∷ [])) ≡ joined (turns_of xs) ++ s.turns
+pub joined_last : (xs : List Segment) (s : Segment) → joined (turns_of (xs ++ s ∷ [])) ≡ joined (turns_of xs) ++ s.turns
 joined_last [] s = append-nil s.turns
-joined_last (x ∷ xs) s = ap (λ l. x.turns ++ l) (joined_last xs s) ∙ sym (append_assoc x.turns (joined (turns_of xs)) s.turns)
+joined_last (x ∷ xs) s = ap (λ l. x.turns ++ l) (joined_last xs s)
+    ∙ sym (append_assoc x.turns (joined (turns_of xs)) s.turns)
 
 pub last_of : (log : Log) (front : List Head) (h : Head) → Succeeds log (front ++ h ∷ []) → LastOf log front h
 last_of log front h s =
@@ -177,12 +200,15 @@ last_of log front h s =
     let places : all_places (places_in front) ++ h.placed ≡ all_places (places_of all) =
     sym (ap all_places (places_there script 1 (front ++ h ∷ [])) ∙ places_of_last front h) in
     let given : GivesBlocks script (joined (turns_of all) ++ []) (all_places (places_of all) ++ []) no_blocks =
-    subst (λ t. GivesBlocks script t (all_places (places_of all) ++ []) no_blocks) (turns ∙ sym (append-nil (joined (turns_of all))))
-    (subst (λ p. GivesBlocks script (turns_upto script n) p no_blocks) (places ∙ sym (append-nil (all_places (places_of all)))) here.gives_blocks) in
+    subst (λ t. GivesBlocks script t (all_places (places_of all) ++ []) no_blocks) (turns
+    ∙ sym (append-nil (joined (turns_of all))))
+    (subst (λ p. GivesBlocks script (turns_upto script n) p no_blocks) (places
+    ∙ sym (append-nil (all_places (places_of all)))) here.gives_blocks) in
     let whole = gives_line script all [] [] no_blocks given (all_items log [] (front ++ h ∷ []) s) in
     let parts = line_parts script no_blocks whole.0 (chunks_of script 1 front) (chunk_of script n h ∷ [])
     (subst (λ l. GivesLine script no_blocks l whole.0) (heads_last script front h) whole.1) in
-    let few : length (front ++ h ∷ []) ≤ length (chunks script) = let t = here.of_chunk.there in let l = one_longer front h in omega (arith, t, l) in
+    let few : length (front ++ h ∷ []) ≤ length (chunks script) = let t = here.of_chunk.there in let l =
+    one_longer front h in omega (arith, t, l) in
     let split = chunks_split script [] (chunks script) (front ++ h ∷ []) refl few in
     let cuts = cut_joined script script.turns [] in
     let first = chunks_of script 1 front in
@@ -199,6 +225,11 @@ last_of log front h s =
           ∙ ap (λ l. joined (turns_of l) ++ (joined split.0 ++ cuts.0)) (heads_last script front h)
           ∙ ap (λ l. l ++ (joined split.0 ++ cuts.0)) (joined_last first (chunk_of script n h))
           ∙ append_assoc (joined (turns_of first)) (chunk_turns script n) (joined split.0 ++ cuts.0);
+      rest = split.0;
+      cut =
+          split.1 ∙ ap (λ l. turns_of l ++ split.0) (heads_last script front h)
+          ∙ ap (λ l. l ++ split.0) (turns_of-append first (chunk_of script n h ∷ []))
+          ∙ append_assoc (turns_of first) (chunk_turns script n ∷ []) split.0;
       made_before = line_blocks script 1 front nothing_made no_blocks parts.0 parts.1 refl;
       made_here =
           ap (λ l. make_chunks script 1 l nothing_made) (map_append (λ h. h.placed) front (h ∷ []))

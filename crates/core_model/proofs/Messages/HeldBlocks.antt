@@ -1,12 +1,15 @@
--- Blocks that messages hold: a live buffer's block was taken, and since then none took it again and none gave it up; and what a
--- message takes is no live buffer's.
-use Rattle.std.proofs.Common.{◌≡◌, ℕ, suc, Bool, true, false, cond, ◌||◌, ◌==◌, List, [], ◌∷◌, ◌++◌, length, refl, sym, ap, ◌∙◌, subst, inl, inr, ◌⊎◌, Option, Some, None, append_assoc, append-nil}
+-- Blocks that messages hold: a live buffer's block was taken, and since then none took it again and none gave it up;
+-- and what a message takes is no live buffer's.
+use Rattle.std.proofs.Common.{◌≡◌, ℕ, suc, Bool, true, false, cond, ◌||◌, ◌==◌, List, [], ◌∷◌, ◌++◌, length, refl}
+use Rattle.std.proofs.Common.{sym, ap, ◌∙◌, subst, inl, inr, ◌⊎◌, Option, Some, None, append_assoc, append-nil}
 use Rattle.std.specs.List.{list_any, AllByRecursion}
 use Rattle.std.proofs.lemmas.Bool.{cases_Bool, eqb-true, eq-eqb, both_ways}
 use Rattle.std.proofs.lemmas.List.Folds.{list_any-append}
 use Rattle.vk_types.specs.declared.message.Placed.{Placed}
 use Rattle.base_lemmas.proofs.Lists.{all_append}
-use Rattle.core_model.specs.Script.{Play, Create, Discard, No_overwrite, Stage, Command, Destroy, Create_shader, Mark_query, Set_state, Turn, Refused, Passed, Flushed, Asked, Item, Script, updated}
+use Rattle.core_model.specs.Script.{Play, Create, Discard, No_overwrite, Stage, Command, Destroy, Create_shader}
+use Rattle.core_model.specs.Script.{Mark_query, Set_state, Turn, Refused, Passed, Flushed, Asked, Item, Script}
+use Rattle.core_model.specs.Script.{updated}
 use Rattle.core_model.specs.Chunking.{chunk_turns}
 use Rattle.core_model.specs.Renaming.{BlockMap}
 use Rattle.core_model.specs.Owners.{is_block}
@@ -19,32 +22,36 @@ use Rattle.core_model.specs.Batching.{next_chunk}
 use Rattle.core_model.proofs.Messages.MadeLines.{made_blocks}
 use Rattle.core_model.proofs.Messages.HeadLines.{chunks_of, places_of_last, last_of}
 
--- Places of a block -------------------------------------------------------------------------------------------------------
+-- Places of a block -------------------------------------------------------------------------------------------------
 
-abbrev IsApart : Placed → Type 0
+abbrev pub IsApart : Placed → Type 0
 IsApart p = (b : ℕ) → p.block ≡ Some b → p.mark ≡ Some b → ⊥
 
 is_own : (b : ℕ) (o : Option ℕ) → o ≡ Some b → is_block o b ≡ true
 is_own b o e = ap (λ o. is_block o b) e ∙ eq-eqb b b refl
 
-takes_more : (b : ℕ) (xs : List Placed) (p : Placed) (ys : List Placed) → p.block ≡ Some b → takes b (xs ++ p ∷ ys) ≡ true
+pub takes_more : (b : ℕ) (xs : List Placed) (p : Placed) (ys : List Placed) → p.block ≡ Some b
+    → takes b (xs ++ p ∷ ys) ≡ true
 takes_more b xs p ys e =
     list_any-append (λ p. is_block p.block b) xs (p ∷ ys)
     ∙ or_right (takes b xs) (takes b (p ∷ ys)) (or_left (is_block p.block b) (takes b ys) (is_own b p.block e))
 
-gives_more : (b : ℕ) (xs : List Placed) (p : Placed) (ys : List Placed) → p.mark ≡ Some b → gives_up b (xs ++ p ∷ ys) ≡ true
+gives_more : (b : ℕ) (xs : List Placed) (p : Placed) (ys : List Placed) → p.mark ≡ Some b
+    → gives_up b (xs ++ p ∷ ys) ≡ true
 gives_more b xs p ys e =
     list_any-append (λ p. is_block p.mark b) xs (p ∷ ys)
     ∙ or_right (gives_up b xs) (gives_up b (p ∷ ys)) (or_left (is_block p.mark b) (gives_up b ys) (is_own b p.mark e))
 
 -- no item of the one part passes, and none of the other
-none_both : (f : Placed → Bool) (xs ys : List Placed) → list_any f xs ≡ false → list_any f ys ≡ false → list_any f (xs ++ ys) ≡ false
+none_both : (f : Placed → Bool) (xs ys : List Placed) → list_any f xs ≡ false → list_any f ys ≡ false
+    → list_any f (xs ++ ys) ≡ false
 none_both f xs ys h k = list_any-append f xs ys ∙ ap (λ x. x || list_any f ys) h ∙ k
 
-none_front : (f : Placed → Bool) (xs ys : List Placed) → list_any f (xs ++ ys) ≡ false → list_any f xs ≡ false
+pub none_front : (f : Placed → Bool) (xs ys : List Placed) → list_any f (xs ++ ys) ≡ false → list_any f xs ≡ false
 none_front f xs ys h =
     elim (cases_Bool (list_any f xs)) [
-      | inl t ↦ absurd (both_ways (list_any f (xs ++ ys)) h (list_any-append f xs ys ∙ or_left (list_any f xs) (list_any f ys) t))
+      | inl t ↦ absurd (both_ways (list_any f (xs ++ ys)) h (list_any-append f xs ys
+          ∙ or_left (list_any f xs) (list_any f ys) t))
       | inr e ↦ e
     ]
 
@@ -62,11 +69,12 @@ compare b (y ∷ pre) p post [] q back e took gave =
 compare b (y ∷ pre) p post (x ∷ front) q back e took gave =
     let rest : pre ++ p ∷ post ≡ front ++ q ∷ back = cc e in compare b pre p post front q back rest took gave
 
-at_middle : (P : Placed → Type 0) (xs : List Placed) (p : Placed) (ys : List Placed) → AllByRecursion P (xs ++ p ∷ ys) → P p
+at_middle : (P : Placed → Type 0) (xs : List Placed) (p : Placed) (ys : List Placed)
+    → AllByRecursion P (xs ++ p ∷ ys) → P p
 at_middle P [] p ys h = h.0
 at_middle P (x ∷ xs) p ys h = at_middle P xs p ys h.1
 
--- What is known of the places so far -----------------------------------------------------------------------------------------
+-- What is known of the places so far --------------------------------------------------------------------------------
 
 pub record Holds (places : List Placed) (blocks : BlockMap) : Type 0 where
   pub held : (r b : ℕ) → blocks r ≡ Some b → IsHeldBy places b
@@ -74,13 +82,15 @@ pub record Holds (places : List Placed) (blocks : BlockMap) : Type 0 where
   pub apart : AllByRecursion IsApart places
 
 -- none of these items took the block, or one gave it up and none took it since
-abbrev IsOffered : List Placed → ℕ → Type 0
+abbrev pub IsOffered : List Placed → ℕ → Type 0
 IsOffered places b =
     (takes b places ≡ false)
-    ⊎ ((front : List Placed) × (q : Placed) × (back : List Placed) × (places ≡ front ++ q ∷ back) × (q.mark ≡ Some b) × (takes b back ≡ false))
+    ⊎ ((front : List Placed) × (q : Placed) × (back : List Placed) × (places ≡ front ++ q ∷ back)
+    × (q.mark ≡ Some b) × (takes b back ≡ false))
 
 -- such a block is no live buffer's
-strange : (places : List Placed) (blocks : BlockMap) → Holds places blocks → (b r : ℕ) → IsOffered places b → blocks r ≡ Some b → ⊥
+strange : (places : List Placed) (blocks : BlockMap) → Holds places blocks → (b r : ℕ) → IsOffered places b
+    → blocks r ≡ Some b → ⊥
 strange places blocks h b r (inl none) e =
     let x = h.held r b e in
     both_ways (takes b places) none (ap (takes b) x.split ∙ takes_more b x.front x.place x.back x.took)
@@ -97,12 +107,14 @@ strange places blocks h b r (inr o) e =
     ]
 
 -- what may be taken behind these messages and items is offered by all of them, and by the messages alone
-offered_all : (earlier : List (List Placed)) (here : List Placed) (b : ℕ) → MayTake earlier here b → IsOffered (all_places earlier ++ here) b
+pub offered_all : (earlier : List (List Placed)) (here : List Placed) (b : ℕ) → MayTake earlier here b
+    → IsOffered (all_places earlier ++ here) b
 offered_all earlier here b (inl n) = inl n.0
 offered_all earlier here b (inr o) =
     inr (o.0, o.1, o.2 ++ here, ap (λ l. l ++ here) o.3 ∙ append_assoc o.0 (o.1 ∷ o.2) here, o.4, o.5)
 
-offered_before : (earlier : List (List Placed)) (here : List Placed) (b : ℕ) → MayTake earlier here b → IsOffered (all_places earlier) b
+offered_before : (earlier : List (List Placed)) (here : List Placed) (b : ℕ) → MayTake earlier here b
+    → IsOffered (all_places earlier) b
 offered_before earlier here b (inl n) = inl (none_front (λ p. is_block p.block b) (all_places earlier) here n.0)
 offered_before earlier here b (inr o) = inr (o.0, o.1, o.2, o.3, o.4, none_front (λ p. is_block p.block b) o.2 here o.5)
 
@@ -122,9 +134,10 @@ taken_once earlier here b m = none_back (by m)
     by (inl n) = (all_places earlier, n.0)
     by (inr o) = (o.2, o.5)
 
--- One item more --------------------------------------------------------------------------------------------------------------
+-- One item more -----------------------------------------------------------------------------------------------------
 
-held_still : (places : List Placed) (p : Placed) (b : ℕ) → is_block p.block b ≡ false → is_block p.mark b ≡ false → IsHeldBy places b
+held_still : (places : List Placed) (p : Placed) (b : ℕ) → is_block p.block b ≡ false → is_block p.mark b ≡ false
+    → IsHeldBy places b
     → IsHeldBy (places ++ p ∷ []) b
 held_still places p b t g h = record {
   front = h.front;
@@ -151,7 +164,8 @@ module _ (places : List Placed) (blocks : BlockMap) (h : Holds places blocks) (p
   }
 
   -- a buffer's block is given up, if it has one
-  one_off : (buffer : ℕ) → p.block ≡ None → p.mark ≡ blocks buffer → Holds (places ++ p ∷ []) (updated buffer None blocks)
+  one_off : (buffer : ℕ) → p.block ≡ None → p.mark ≡ blocks buffer
+      → Holds (places ++ p ∷ []) (updated buffer None blocks)
   one_off buffer t g = record {
     held = λ r b e. elim (cases_Bool (r == buffer)) [
       | inl y ↦ absurd (let z : None ≡ Some b = sym (ap (λ c. cond c None (blocks r)) y) ∙ e in cc z)
@@ -165,7 +179,8 @@ module _ (places : List Placed) (blocks : BlockMap) (h : Holds places blocks) (p
       | inl y ↦ absurd (let z : None ≡ Some b = sym (ap (λ c. cond c None (blocks r)) y) ∙ e in cc z)
       | inr n ↦ elim (cases_Bool (q == buffer)) [
         | inl y ↦ absurd (let z : None ≡ Some b = sym (ap (λ c. cond c None (blocks q)) y) ∙ f in cc z)
-        | inr m ↦ h.own r q b (sym (ap (λ c. cond c None (blocks r)) n) ∙ e) (sym (ap (λ c. cond c None (blocks q)) m) ∙ f)
+        | inr m ↦ h.own r q b (sym (ap (λ c. cond c None (blocks r)) n)
+            ∙ e) (sym (ap (λ c. cond c None (blocks q)) m) ∙ f)
       ]
     ];
     apart = all_append IsApart places (p ∷ []) h.apart ((λ b x y. let z : None ≡ Some b = sym t ∙ x in cc z), tt);
@@ -200,7 +215,8 @@ module _ (places : List Placed) (blocks : BlockMap) (h : Holds places blocks) (p
         | inl x ↦
             let same : Some b ≡ Some d = sym (ap (λ c. cond c (Some b) (blocks q)) x) ∙ f in
             absurd (new r (sym (ap (λ c. cond c (Some b) (blocks r)) n) ∙ e ∙ sym same))
-        | inr m ↦ h.own r q d (sym (ap (λ c. cond c (Some b) (blocks r)) n) ∙ e) (sym (ap (λ c. cond c (Some b) (blocks q)) m) ∙ f)
+        | inr m ↦ h.own r q d (sym (ap (λ c. cond c (Some b) (blocks r)) n)
+            ∙ e) (sym (ap (λ c. cond c (Some b) (blocks q)) m) ∙ f)
       ]
     ];
     apart = all_append IsApart places (p ∷ []) h.apart (
@@ -212,7 +228,8 @@ module _ (places : List Placed) (blocks : BlockMap) (h : Holds places blocks) (p
     );
   }
 
-play_holds : (script : Script) (places : List Placed) (play : Play) (p : Placed) (old new : BlockMap) → PlacesPlay script play p old new
+pub play_holds : (script : Script) (places : List Placed) (play : Play) (p : Placed) (old new : BlockMap)
+    → PlacesPlay script play p old new
     → ((b : ℕ) → p.block ≡ Some b → IsOffered places b) → Holds places old → Holds (places ++ p ∷ []) new
 play_holds script places (Create buffer bytes) p old new k o h =
     subst (Holds (places ++ p ∷ [])) (sym k.5)
@@ -235,9 +252,10 @@ play_holds script places (Mark_query query begins) p old new k o h =
 play_holds script places Set_state p old new k o h =
     subst (Holds (places ++ p ∷ [])) (sym k.1) (none_placed places old h p k.0.0 k.0.1)
 
--- The items of a message, and the messages --------------------------------------------------------------------------------------
+-- The items of a message, and the messages --------------------------------------------------------------------------
 
-turns_hold : (script : Script) (earlier : List (List Placed)) (ts : List Turn) (here ps : List Placed) (old new : BlockMap)
+turns_hold : (script : Script) (earlier : List (List Placed)) (ts : List Turn) (here ps : List Placed)
+    (old new : BlockMap)
     → GivesTo script ts ps old new → TakesLawfully earlier (here ++ ps) → Holds (all_places earlier ++ here) old
     → Holds (all_places earlier ++ (here ++ ps)) new
 turns_hold script earlier [] here ps old new g l h =
@@ -262,17 +280,21 @@ turns_hold script earlier (Item call item ends play bound ∷ ts) here ps old ne
     (subst (λ l. Holds (all_places earlier ++ l) new) (append_assoc here (p ∷ []) g.1) more)
 
 -- one message on
-message_holds : (log : Log) (pre : List Head) (x : Head) (k : ℕ) (old new : BlockMap) → GivesTo log.script (chunk_turns log.script k) x.placed old new
-    → TakesLawfully (places_in pre) x.placed → Holds (all_places (places_in pre)) old → Holds (all_places (places_in (pre ++ x ∷ []))) new
+message_holds : (log : Log) (pre : List Head) (x : Head) (k : ℕ) (old new : BlockMap)
+    → GivesTo log.script (chunk_turns log.script k) x.placed old new
+    → TakesLawfully (places_in pre) x.placed → Holds (all_places (places_in pre)) old
+    → Holds (all_places (places_in (pre ++ x ∷ []))) new
 message_holds log pre x k old new g l h =
     subst (λ l. Holds l new) (sym (places_of_last pre x))
     (turns_hold log.script (places_in pre) (chunk_turns log.script k) [] x.placed old new g l
     (subst (λ l. Holds l old) (sym (append-nil (all_places (places_in pre)))) h))
 
-line_holds : (log : Log) (pre hs : List Head) (k : ℕ) (old new : BlockMap) → Succeeds log (pre ++ hs) → GivesLine log.script old (chunks_of log.script k hs) new
+line_holds : (log : Log) (pre hs : List Head) (k : ℕ) (old new : BlockMap) → Succeeds log (pre ++ hs)
+    → GivesLine log.script old (chunks_of log.script k hs) new
     → Holds (all_places (places_in pre)) old → Holds (all_places (places_in (pre ++ hs))) new
 line_holds log pre [] k old new s g h =
-    subst (λ l. Holds (all_places (places_in l)) new) (sym (append-nil pre)) (subst (Holds (all_places (places_in pre))) (sym g) h)
+    subst (λ l. Holds (all_places (places_in l)) new) (sym (append-nil pre))
+    (subst (Holds (all_places (places_in pre))) (sym g) h)
 line_holds log pre (x ∷ hs) k old new s g h =
     subst (λ l. Holds (all_places (places_in l)) new) (append_assoc pre (x ∷ []) hs)
     (line_holds log (pre ++ x ∷ []) hs (suc k) g.0 new (subst (Succeeds log) (sym (append_assoc pre (x ∷ []) hs)) s) g.2
@@ -283,7 +305,8 @@ none_held = record { held = λ r b e. absurd (cc e); own = λ r q b e f. absurd 
 
 -- the messages before the last succeed each other too
 fewer : (log : Log) (front : List Head) (h : Head) → Succeeds log (front ++ h ∷ []) → Succeeds log front
-fewer log front h s pre x back e = s pre x (back ++ h ∷ []) (ap (λ l. l ++ h ∷ []) e ∙ append_assoc pre (x ∷ back) (h ∷ []))
+fewer log front h s pre x back e = s pre x (back ++ h ∷ []) (ap (λ l. l ++ h ∷ []) e
+    ∙ append_assoc pre (x ∷ back) (h ∷ []))
 
 pub holds_before : (log : Log) (front : List Head) (h : Head) → Succeeds log (front ++ h ∷ [])
     → Holds (all_places (places_in front)) (made_of log front).blocks
@@ -294,14 +317,16 @@ holds_before log front h s =
 
 -- what a message takes is no block of a buffer that lived before it, and it takes it once
 pub taken_strange : (log : Log) (front : List Head) (h : Head) → Succeeds log (front ++ h ∷ [])
-    → (before : List Placed) (p : Placed) (after : List Placed) (b : ℕ) → h.placed ≡ before ++ p ∷ after → p.block ≡ Some b
+    → (before : List Placed) (p : Placed) (after : List Placed) (b : ℕ) → h.placed ≡ before ++ p ∷ after
+    → p.block ≡ Some b
     → (r : ℕ) → (made_of log front).blocks r ≡ Some b → ⊥
 taken_strange log front h s before p after b e t r =
     strange (all_places (places_in front)) (made_of log front).blocks (holds_before log front h s) b r
     (offered_before (places_in front) before b ((s front h [] refl).takes_lawfully before p after b e t))
 
 pub taken_anew : (log : Log) (front : List Head) (h : Head) → Succeeds log (front ++ h ∷ [])
-    → (before : List Placed) (p : Placed) (after : List Placed) (b : ℕ) → h.placed ≡ before ++ p ∷ after → p.block ≡ Some b
+    → (before : List Placed) (p : Placed) (after : List Placed) (b : ℕ) → h.placed ≡ before ++ p ∷ after
+    → p.block ≡ Some b
     → takes b before ≡ false
 taken_anew log front h s before p after b e t =
     taken_once (places_in front) before b ((s front h [] refl).takes_lawfully before p after b e t)
@@ -314,6 +339,7 @@ holds_behind log front h s =
     let old = subst (Holds (all_places (places_in front))) l.made_before (holds_before log front h s) in
     let made : (made_of log (front ++ h ∷ [])).blocks ≡ l.after =
     ap (λ m. m.blocks) l.made_here
-    ∙ made_blocks log.script (chunk_turns log.script (suc (length front))) h.placed l.before l.after (next_chunk (made_of log front)) l.gives l.made_before in
+    ∙ made_blocks log.script (chunk_turns log.script (suc (length front))) h.placed l.before l.after
+    (next_chunk (made_of log front)) l.gives l.made_before in
     subst (Holds (all_places (places_in (front ++ h ∷ [])))) (sym made)
     (message_holds log front h (suc (length front)) l.before l.after l.gives (s front h [] refl).takes_lawfully old)

@@ -28,7 +28,8 @@ differs : (n k : ℕ) → (n ≡ k → ⊥) → (n == k) ≡ false
 differs n k h = elim (cases_Bool (n == k)) [ inl t ↦ absurd (h (eqb-true n k t)) | inr f ↦ f ]
 
 -- the next command ran this many invocations
-pub totals_more : (counts : ℕ → ℕ) (commands ran : ℕ) (state state' : InOrder) → Totals counts commands state → state'.total ≡ state.total + ran
+pub totals_more : (counts : ℕ → ℕ) (commands ran : ℕ) (state state' : InOrder) → Totals counts commands state
+    → state'.total ≡ state.total + ran
     → Totals (λ n. counts n + cond (n == suc commands) ran 0) (suc commands) state'
 totals_more counts commands ran state state' t e =
     let f : ℕ → ℕ = λ n. counts n + cond (n == suc commands) ran 0 in
@@ -36,15 +37,18 @@ totals_more counts commands ran state state' t e =
       total =
           let a = t.total in
           let kept : sum_from f 1 commands ≡ sum_from counts 1 commands =
-          sum_kept f counts 1 commands (λ m l. let z = elsewhere m (suc commands) ran (differs m (suc commands) (λ q. let x : ⊥ = omega (arith, l, q) in x)) in omega (arith, z)) in
+          sum_kept f counts 1 commands (λ m l. let z = elsewhere m (suc commands) ran
+          (differs m (suc commands) (λ q. let x : ⊥ = omega (arith, l, q) in x)) in omega (arith, z)) in
           let last = sum_last f 1 commands in
           let one : 1 + commands ≡ suc commands = omega arith in
           let at : f (1 + commands) ≡ f (suc commands) = ap f one in
           let none = t.above (suc commands) (omega arith) in
-          let here : cond (suc commands == suc commands) ran 0 ≡ ran = ap (λ c. cond c ran 0) (eq-eqb (suc commands) (suc commands) refl) in
+          let here : cond (suc commands == suc commands) ran 0 ≡ ran =
+          ap (λ c. cond c ran 0) (eq-eqb (suc commands) (suc commands) refl) in
           omega (arith, e, a, kept, last, at, none, here);
       above = λ n l.
           let none = t.above n (omega (arith, l)) in
-          let z = elsewhere n (suc commands) ran (differs n (suc commands) (λ q. let x : ⊥ = omega (arith, l, q) in x)) in
+          let z = elsewhere n (suc commands) ran (differs n (suc commands) (λ q. let x : ⊥ = omega (arith, l, q) in
+          x)) in
           omega (arith, none, z);
     }

@@ -1,9 +1,12 @@
 -- The invocations that turns run in order, as sums over the numbers of the commands that they make.
-use Rattle.std.proofs.Common.{◌≡◌, ℕ, zero, suc, ◌+◌, ◌-◌, ◌<◌, ◌≤◌, true, false, subst, List, [], ◌∷◌, ◌++◌, refl, sym, ap, ◌∙◌, ◌⊎◌, inl, inr, Some, None, arith}
+use Rattle.std.proofs.Common.{◌≡◌, ℕ, zero, suc, ◌+◌, ◌-◌, ◌<◌, ◌≤◌, true, false, subst, List, [], ◌∷◌, ◌++◌, refl}
+use Rattle.std.proofs.Common.{sym, ap, ◌∙◌, ◌⊎◌, inl, inr, Some, None, arith}
 use Rattle.base_lemmas.specs.Lists.{numbers_from}
 use Rattle.vk_types.specs.Memory.{number_at}
 use Rattle.vk_types.specs.Effects.{Meaning}
-use Rattle.core_model.specs.Script.{Create, Discard, No_overwrite, Stage, Command, Destroy, Create_shader, Mark_query, Set_state, Turn, Refused, Passed, Flushed, Asked, Item, Script, InOrder, at_start, turn_in_order, in_order}
+use Rattle.core_model.specs.Script.{Create, Discard, No_overwrite, Stage, Command, Destroy, Create_shader, Mark_query}
+use Rattle.core_model.specs.Script.{Set_state, Turn, Refused, Passed, Flushed, Asked, Item, Script, InOrder, at_start}
+use Rattle.core_model.specs.Script.{turn_in_order, in_order}
 use Rattle.core_model.specs.OtherParts.{sum_from}
 use Rattle.core_model.specs.Queries.{turn_runs, runs_in_order, count_in_order, commands_by, commands_in}
 
@@ -24,7 +27,8 @@ sum_split f (suc a) first b =
     let m = ap (sum_from f first) n in
     omega (arith, r, s, m)
 
-pub sum_same : (f g : ℕ → ℕ) (n first : ℕ) → ((m : ℕ) → first ≤ m → m < first + n → f m ≡ g m) → sum_from f first n ≡ sum_from g first n
+pub sum_same : (f g : ℕ → ℕ) (n first : ℕ) → ((m : ℕ) → first ≤ m → m < first + n → f m ≡ g m)
+    → sum_from f first n ≡ sum_from g first n
 sum_same f g zero first h = refl
 sum_same f g (suc n) first h =
     let a = h first (omega arith) (omega arith) in
@@ -32,7 +36,8 @@ sum_same f g (suc n) first h =
     omega (arith, a, r)
 
 -- what lies between two places is the difference of what lies below them
-pub sum_between : (f : ℕ → ℕ) (first last : ℕ) → sum_from f 0 last - sum_from f 0 first ≡ sum_from f first (last - first)
+pub sum_between : (f : ℕ → ℕ) (first last : ℕ) → sum_from f 0 last - sum_from f 0 first
+    ≡ sum_from f first (last - first)
 sum_between f first last = elim (by_order first last) [
   | inl l ↦
       let e : last ≡ first + (last - first) = omega (arith, l) in
@@ -62,17 +67,21 @@ numbers_more zero first b =
 numbers_more (suc a) first b =
     let n : suc a + b ≡ suc (a + b) = omega arith in
     let e : suc first + a ≡ first + suc a = omega arith in
-    ap (numbers_from first) n ∙ ap (λ l. first ∷ l) (numbers_more a (suc first) b ∙ ap (λ k. numbers_from (suc first) a ++ numbers_from k b) e)
+    ap (numbers_from first) n ∙ ap (λ l. first ∷ l) (numbers_more a (suc first) b
+    ∙ ap (λ k. numbers_from (suc first) a ++ numbers_from k b) e)
 
--- A turn makes a command or none ------------------------------------------------------------------------------------------
+-- A turn makes a command or none ------------------------------------------------------------------------------------
 
 abbrev RunsNone : Meaning → Script → Turn → InOrder → Type 0
-RunsNone meaning script t s = (commands_by t ≡ 0) × (turn_runs meaning t s ≡ []) × ((turn_in_order meaning script t s).total ≡ s.total)
+RunsNone meaning script t s = (commands_by t ≡ 0) × (turn_runs meaning t s ≡ [])
+    × ((turn_in_order meaning script t s).total ≡ s.total)
 
 abbrev RunsOne : Meaning → Script → Turn → InOrder → Type 0
-RunsOne meaning script t s = (x : ℕ) × (commands_by t ≡ 1) × (turn_runs meaning t s ≡ x ∷ []) × ((turn_in_order meaning script t s).total ≡ s.total + x)
+RunsOne meaning script t s = (x : ℕ) × (commands_by t ≡ 1) × (turn_runs meaning t s ≡ x ∷ [])
+    × ((turn_in_order meaning script t s).total ≡ s.total + x)
 
-runs_cases : (meaning : Meaning) (script : Script) (t : Turn) (s : InOrder) → RunsNone meaning script t s ⊎ RunsOne meaning script t s
+runs_cases : (meaning : Meaning) (script : Script) (t : Turn) (s : InOrder) → RunsNone meaning script t s
+    ⊎ RunsOne meaning script t s
 runs_cases meaning script (Refused call) s = inl (refl, refl, refl)
 runs_cases meaning script (Passed call) s = inl (refl, refl, refl)
 runs_cases meaning script (Flushed call) s = inl (refl, refl, refl)
@@ -82,7 +91,8 @@ runs_cases meaning script (Item call item ends (Discard buffer from bytes) bound
 runs_cases meaning script (Item call item ends (No_overwrite buffer from bytes) bound) s = inl (refl, refl, refl)
 runs_cases meaning script (Item call item ends (Stage [] target skip) bound) s = inl (refl, refl, refl)
 runs_cases meaning script (Item call item ends (Stage (b ∷ bs) None skip) bound) s = inl (refl, refl, refl)
-runs_cases meaning script (Item call item ends (Stage (b ∷ bs) (Some target) skip) bound) s = inr (0, refl, refl, (omega arith))
+runs_cases meaning script (Item call item ends (Stage (b ∷ bs) (Some target) skip) bound) s =
+    inr (0, refl, refl, (omega arith))
 runs_cases meaning script (Item call item ends (Command w skip) bound) s = inr (_, refl, refl, refl)
 runs_cases meaning script (Item call item ends (Destroy buffer) bound) s = inl (refl, refl, refl)
 runs_cases meaning script (Item call item ends Create_shader bound) s = inl (refl, refl, refl)
@@ -101,7 +111,8 @@ is_from_next f k x ns h = (
 )
 
 -- what a front of the turns runs is the sum over its commands
-sums_from : (meaning : Meaning) (script : Script) (f : ℕ → ℕ) (front back : List Turn) (k : ℕ) (s : InOrder) → IsFrom f k (runs_in_order meaning script (front ++ back) s)
+sums_from : (meaning : Meaning) (script : Script) (f : ℕ → ℕ) (front back : List Turn) (k : ℕ) (s : InOrder)
+    → IsFrom f k (runs_in_order meaning script (front ++ back) s)
     → (in_order meaning script front s).total ≡ s.total + sum_from f k (commands_in front)
 sums_from meaning script f [] back k s h = omega arith
 sums_from meaning script f (t ∷ ts) back k s h =
@@ -111,14 +122,16 @@ sums_from meaning script f (t ∷ ts) back k s h =
       | inl n ↦
           let here : IsFrom f k rest = subst (λ l. IsFrom f k (l ++ rest)) n.1 h in
           let r = sums_from meaning script f ts back k after here in
-          let c : commands_in (t ∷ ts) ≡ commands_in ts = ap (λ m. m + commands_in ts) n.0 ∙ zero_more (commands_in ts) in
+          let c : commands_in (t ∷ ts) ≡ commands_in ts = ap (λ m. m + commands_in ts) n.0
+          ∙ zero_more (commands_in ts) in
           let total = n.2 in
           r ∙ ap (λ m. m + sum_from f k (commands_in ts)) total ∙ ap (λ m. s.total + sum_from f k m) (sym c)
       | inr n ↦
           let here : IsFrom f k (n.0 ∷ rest) = subst (λ l. IsFrom f k (l ++ rest)) n.2 h in
           let next = is_from_next f k n.0 rest here in
           let r = sums_from meaning script f ts back (suc k) after next.1 in
-          let c : commands_in (t ∷ ts) ≡ suc (commands_in ts) = ap (λ m. m + commands_in ts) n.1 ∙ one_more (commands_in ts) in
+          let c : commands_in (t ∷ ts) ≡ suc (commands_in ts) = ap (λ m. m + commands_in ts) n.1
+          ∙ one_more (commands_in ts) in
           let total = n.3 in
           let first = next.0 in
           let all = ap (sum_from f k) c in
@@ -137,7 +150,8 @@ pub sums : (meaning : Meaning) (script : Script) (front back : List Turn) → sc
 sums meaning script front back e =
     let all = runs_in_order meaning script script.turns at_start in
     let r = sums_from meaning script (count_in_order meaning script) front back 1 at_start
-    (λ i. (let z : 1 + i ≡ suc i = omega arith in ap (number_at (0 ∷ all)) z) ∙ ap (λ l. number_at (runs_in_order meaning script l at_start) i) e) in
+    (λ i. (let z : 1 + i ≡ suc i = omega arith in ap (number_at (0 ∷ all)) z)
+    ∙ ap (λ l. number_at (runs_in_order meaning script l at_start) i) e) in
     omega (arith, r)
 
 pub commands_append : (xs ys : List Turn) → commands_in (xs ++ ys) ≡ commands_in xs + commands_in ys

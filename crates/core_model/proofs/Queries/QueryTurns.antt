@@ -1,5 +1,6 @@
 -- What a turn adds to commands and marks of queries, however its item is played.
-use Rattle.std.proofs.Common.{◌≡◌, ℕ, suc, ◌+◌, ◌<◌, ◌≤◌, Bool, true, false, cond, max, nat_le, List, [], ◌∷◌, ◌++◌, length, map, refl, sym, ap, ◌∙◌, subst, inl, inr, Option, Some, None, arith, append-nil}
+use Rattle.std.proofs.Common.{◌≡◌, ℕ, suc, ◌+◌, ◌<◌, ◌≤◌, Bool, true, false, cond, max, nat_le, List, [], ◌∷◌, ◌++◌}
+use Rattle.std.proofs.Common.{length, map, refl, sym, ap, ◌∙◌, subst, inl, inr, Option, Some, None, arith, append-nil}
 use Rattle.std.specs.List.{AllByRecursion}
 use Rattle.dx_types.specs.declared.range.Range.{Range}
 use Rattle.vk_types.specs.declared.message.QueryMark.{QueryMark}
@@ -12,284 +13,281 @@ use Rattle.vk_types.specs.Entries.{Entry}
 use Rattle.vk_types.specs.declared.command.Command as c
 use Rattle.vk_types.specs.declared.op.Barrier.{Barrier}
 use Rattle.base_lemmas.proofs.Lists.{all_front, all_back, all_append}
-use Rattle.core_model.specs.Script.{Play, Create, Discard, No_overwrite, Stage, Command, Destroy, Create_shader, Mark_query, Set_state, Ask, Bytes, Count, Constant, Turn, Refused, Passed, Flushed, Asked, Item, Script, padded}
+use Rattle.core_model.specs.Script.{Play, Create, Discard, No_overwrite, Stage, Command, Destroy, Create_shader}
+use Rattle.core_model.specs.Script.{Mark_query, Set_state, Ask, Bytes, Count, Constant, Turn, Refused, Passed}
+use Rattle.core_model.specs.Script.{Flushed, Asked, Item, Script, padded}
 use Rattle.core_model.specs.CoreState.{entries, Core, later, taken_count, open_number}
 use Rattle.core_model.specs.Readings.{Reading}
 use Rattle.core_model.specs.Renaming.{block_of, range_on, work_on, cond_on}
-use Rattle.core_model.specs.Adding.{with_turn, with_write, fenced, gives_block, with_command, new_command, staged_range, with_page, length_of, retired_by}
+use Rattle.core_model.specs.Adding.{with_turn, with_write, fenced, gives_block, with_command, new_command}
+use Rattle.core_model.specs.Adding.{staged_range, with_page, length_of, retired_by}
 use Rattle.core_model.specs.Owners.{retired}
 use Rattle.core_model.specs.Playing.{HasBlock}
 use Rattle.core_model.specs.AppActs.{with_read, answer, act_commands, device_commands, TakesTurn}
 use Rattle.core_model.specs.Queries.{commands_by, turn_marks, act_is_above, command_numbers}
 use Rattle.core_model.proofs.Steps.Giving.{has_parts}
+pub use Rattle.core_model.proofs.Queries.QueryParts.{Adds}
+use Rattle.core_model.proofs.Queries.QueryParts.{then_same, same_rest, rest_adds, turn_adds, same_write, same_fenced}
+use Rattle.core_model.proofs.Queries.QueryParts.{same_read, same_block, command_adds}
 
-abbrev pub OpenAbove : ℕ → Core → Type 0
-OpenAbove k core = AllByRecursion (λ x. act_is_above k x.act) (entries core.open_chunk)
+-- The turns ---------------------------------------------------------------------------------------------------------
 
--- the turn was taken, with so many commands and these marks
-pub record Adds (t : Turn) (n : ℕ) (ms : List QueryMark) (old new : Core) : Type 0 where
-  pub past : new.past ≡ old.past ++ t ∷ []
-  pub taken : new.taken ≡ old.taken
-  pub later : later new ≡ later old
-  pub messages : new.posts ++ new.completions ≡ old.posts ++ old.completions
-  pub values : new.values ≡ old.values
-  pub turns : new.open_chunk.turns ≡ old.open_chunk.turns ++ t ∷ []
-  pub queries : new.open_chunk.queries ≡ old.open_chunk.queries ++ ms
-  pub commands : new.commands ≡ old.commands + n
-  pub numbers : command_numbers new.open_chunk.commands ≡ command_numbers old.open_chunk.commands ++ numbers_from (suc old.commands) n
-  pub above : (k : ℕ) → k ≤ old.commands → OpenAbove k old → OpenAbove k new
-
--- what adds neither
-record Same (old new : Core) : Type 0 where
-  pub past : new.past ≡ old.past
-  pub taken : new.taken ≡ old.taken
-  pub later : later new ≡ later old
-  pub messages : new.posts ++ new.completions ≡ old.posts ++ old.completions
-  pub values : new.values ≡ old.values
-  pub turns : new.open_chunk.turns ≡ old.open_chunk.turns
-  pub queries : new.open_chunk.queries ≡ old.open_chunk.queries
-  pub commands : new.commands ≡ old.commands
-  pub listed : new.open_chunk.commands ≡ old.open_chunk.commands
-  pub above : (k : ℕ) → OpenAbove k old → OpenAbove k new
-
-then_same : {t : Turn} {n : ℕ} {ms : List QueryMark} {old mid new : Core} → Adds t n ms old mid → Same mid new → Adds t n ms old new
-then_same a s = record {
-  past = s.past ∙ a.past;
-  taken = s.taken ∙ a.taken;
-  later = s.later ∙ a.later;
-  messages = s.messages ∙ a.messages;
-  values = s.values ∙ a.values;
-  turns = s.turns ∙ a.turns;
-  queries = s.queries ∙ a.queries;
-  commands = s.commands ∙ a.commands;
-  numbers = ap command_numbers s.listed ∙ a.numbers;
-  above = λ k l h. s.above k (a.above k l h);
-}
-
--- other parts of the state do not matter
-same_rest : (core new : Core) → Same core (record new {
-  past = core.past;
-  taken = core.taken;
-  posts = core.posts;
-  completions = core.completions;
-  accepted = core.accepted;
-  submissions = core.submissions;
-  batches = core.batches;
-  chunks = core.chunks;
-  open_chunk = record new.open_chunk {
-    turns = core.open_chunk.turns;
-    reads = core.open_chunk.reads;
-    writes = core.open_chunk.writes;
-    commands = core.open_chunk.commands;
-    queries = core.open_chunk.queries;
-  };
-  values = core.values;
-  commands = core.commands;
-})
-same_rest core new = record { past = refl; taken = refl; later = refl; messages = refl; values = refl; turns = refl; queries = refl; commands = refl; listed = refl; above = λ k h. h }
-
-rest_adds : {t : Turn} {n : ℕ} {ms : List QueryMark} {old core : Core} (new : Core) → Adds t n ms old core → Adds t n ms old (record new {
-  past = core.past;
-  taken = core.taken;
-  posts = core.posts;
-  completions = core.completions;
-  accepted = core.accepted;
-  submissions = core.submissions;
-  batches = core.batches;
-  chunks = core.chunks;
-  open_chunk = record new.open_chunk {
-    turns = core.open_chunk.turns;
-    reads = core.open_chunk.reads;
-    writes = core.open_chunk.writes;
-    commands = core.open_chunk.commands;
-    queries = core.open_chunk.queries;
-  };
-  values = core.values;
-  commands = core.commands;
-})
-rest_adds {t} {n} {ms} {old} {core} new a = then_same a (same_rest core new)
-
--- Parts of an item -----------------------------------------------------------------------------------------------------------------
-
-turn_adds : (t : Turn) (turns : List Turn) (old : Core) → Adds t 0 [] old (with_turn t turns old)
-turn_adds t turns old = record {
-  past = refl;
-  taken = refl;
-  later = refl;
-  messages = refl;
-  values = refl;
-  turns = refl;
-  queries = sym (append-nil old.open_chunk.queries);
-  commands = omega arith;
-  numbers = sym (append-nil (command_numbers old.open_chunk.commands));
-  above = λ k l h. h;
-}
-
-same_write : (call : ℕ) (r : Range) (bytes : List ℕ) (core : Core) → Same core (with_write call r bytes core)
-same_write call r [] core = same_rest core core
-same_write call r (b ∷ bs) core = record {
-  past = refl;
-  taken = refl;
-  later = refl;
-  messages = refl;
-  values = refl;
-  turns = refl;
-  queries = refl;
-  commands = refl;
-  listed = refl;
-  above = λ k h.
-      let c = core.open_chunk in
-      let P : Entry → Type 0 = λ x. act_is_above k x.act in
-      let behind = all_back P c.reads (c.writes ++ c.commands) h in
-      all_append P c.reads ((c.writes ++ _ ∷ []) ++ c.commands) (all_front P c.reads (c.writes ++ c.commands) h)
-      (all_append P (c.writes ++ _ ∷ []) c.commands (all_append P c.writes (_ ∷ []) (all_front P c.writes c.commands behind) (tt, tt)) (all_back P c.writes c.commands behind));
-}
-
-same_fenced : (k : ℕ) (core : Core) → Same core (fenced k core)
-same_fenced k core = by (nat_le k (taken_count core))
-  where
-    by : (d : Bool) → Same core (cond d core (record core { listing = core.listing ++ op.Fence k ∷ []; fence = max core.fence k }))
-    by true = same_rest core core
-    by false = same_rest core (record core { listing = core.listing ++ op.Fence k ∷ []; fence = max core.fence k })
-
-same_read : (call : ℕ) (r : Range) (used : Option ℕ) (core : Core) → Same core (with_read call r used core)
-same_read call r None core = same_rest core core
-same_read call r (Some n) core = record {
-  past = refl;
-  taken = refl;
-  later = refl;
-  messages = refl;
-  values = refl;
-  turns = refl;
-  queries = refl;
-  commands = refl;
-  listed = refl;
-  above = λ k h.
-      let c = core.open_chunk in
-      let P : Entry → Type 0 = λ x. act_is_above k x.act in
-      all_append P (c.reads ++ _ ∷ []) (c.writes ++ c.commands) (all_append P c.reads (_ ∷ []) (all_front P c.reads (c.writes ++ c.commands) h) (tt, tt)) (all_back P c.reads (c.writes ++ c.commands) h);
-}
-
-same_block : (reading : Reading) (script : Script) (buffer block : ℕ) (core mid : Core) → HasBlock reading script buffer block core mid → Same core mid
-same_block reading script buffer block core mid h =
-    let p = has_parts reading script buffer block core mid h in
-    subst (Same core) (sym p.2) (same_rest core (record core { board = p.0; pool = p.1 }))
-
--- the number of a command more
-numbers_last : (xs : List Entry) (d : c.Command) (chunk epoch : ℕ) → command_numbers (xs ++ record { act = Device d; chunk = chunk; epoch = epoch; fence = 0; number = 0 } ∷ []) ≡ command_numbers xs ++ d.number ∷ []
-numbers_last [] d chunk epoch = refl
-numbers_last (x ∷ xs) d chunk epoch = by x.act (numbers_last xs d chunk epoch)
-  where
-    last : Entry
-    last = record { act = Device d; chunk = chunk; epoch = epoch; fence = 0; number = 0 }
-
-    by : (a : Act) → command_numbers (xs ++ last ∷ []) ≡ command_numbers xs ++ d.number ∷ []
-        → map (λ d. d.number) (act_commands a ++ device_commands (xs ++ last ∷ [])) ≡ map (λ d. d.number) (act_commands a ++ device_commands xs) ++ d.number ∷ []
-    by (Host_write target bytes) h = h
-    by (Device e) h = ap (λ l. e.number ∷ l) h
-    by (Host_read source) h = h
-
-command_adds : {t : Turn} {old mid : Core} (d : c.Command) (barrier : Option Barrier) → d.number ≡ suc mid.commands → Adds t 0 [] old mid → Adds t 1 [] old (with_command d barrier mid)
-command_adds {t} {old} {mid} d barrier number a = record {
-  past = a.past;
-  taken = a.taken;
-  later = a.later;
-  messages = a.messages;
-  values = a.values;
-  turns = a.turns;
-  queries = a.queries;
-  commands = let n = a.commands in omega (arith, n);
-  numbers =
-      let n = a.commands in
-      let next : d.number ≡ suc old.commands = omega (arith, n, number) in
-      numbers_last mid.open_chunk.commands d _ _ ∙ ap (λ l. l ++ d.number ∷ []) (a.numbers ∙ append-nil (command_numbers old.open_chunk.commands)) ∙ ap (λ n. command_numbers old.open_chunk.commands ++ n ∷ []) next;
-  above = λ k l h.
-      let c = mid.open_chunk in
-      let P : Entry → Type 0 = λ x. act_is_above k x.act in
-      let was = a.above k l h in
-      let behind = all_back P c.reads (c.writes ++ c.commands) was in
-      let n = a.commands in
-      let here : k < d.number = omega (arith, n, l, number) in
-      all_append P c.reads (c.writes ++ (c.commands ++ _ ∷ [])) (all_front P c.reads (c.writes ++ c.commands) was)
-      (all_append P c.writes (c.commands ++ _ ∷ []) (all_front P c.writes c.commands behind) (all_append P c.commands (_ ∷ []) (all_back P c.writes c.commands behind) (here, tt)));
-}
-
--- The turns --------------------------------------------------------------------------------------------------------------------------
-
-asked_adds : (script : Script) (call : ℕ) (ask : Ask) (used : Option ℕ) (old core : Core) (t : Turn) → Adds t 0 [] old core → Adds t 0 [] old (answer call ask used core)
+asked_adds : (script : Script) (call : ℕ) (ask : Ask) (used : Option ℕ) (old core : Core) (t : Turn)
+    → Adds t 0 [] old core → Adds t 0 [] old (answer call ask used core)
 asked_adds script call (Bytes source) used old core t a =
-    rest_adds (answer call (Bytes source) used core) (then_same a (same_read call (range_on core.blocks source) used core))
+    rest_adds (answer call (Bytes source) used core) (then_same a
+    (same_read call (range_on core.blocks source) used core))
 asked_adds script call (Count query) used old core t a = rest_adds (answer call (Count query) used core) a
 asked_adds script call (Constant value) used old core t a = rest_adds (answer call (Constant value) used core) a
 
-plays_adds : (reading : Reading) (script : Script) (call item : ℕ) (ends : Bool) (play : Play) (bound : List Range) (turns : List Turn) (old new : Core)
+plays_adds : (reading : Reading) (script : Script) (call item : ℕ) (ends : Bool) (play : Play) (bound : List Range)
+    (turns : List Turn) (old new : Core)
     → TakesTurn reading script (Item call item ends play bound) turns old new
-    → Adds (Item call item ends play bound) (commands_by (Item call item ends play bound)) (turn_marks old.commands (Item call item ends play bound)) old new
+    → Adds (Item call item ends play bound) (commands_by (Item call item ends play bound))
+    (turn_marks old.commands (Item call item ends play bound)) old new
 plays_adds reading script call item ends (Create buffer bytes) bound turns old new p =
     let t = Item call item ends (Create buffer bytes) bound in
     let a = then_same (turn_adds t turns old) (same_block reading script buffer p.0 (with_turn t turns old) p.1 p.2) in
     let b = then_same a (same_fenced (retired_by (old.owner p.0)) p.1) in
     let g = then_same b (same_rest _ (gives_block buffer p.0 (fenced (retired_by (old.owner p.0)) p.1))) in
-    subst (Adds t 0 [] old) (sym p.3) (let z = (then_same g (same_write call (range p.0 0 (length_of script buffer)) (padded 0 bytes (length_of script buffer)) _)) in
-    record { past = z.past; taken = z.taken; later = z.later; messages = z.messages; values = z.values; turns = z.turns; queries = z.queries; commands = z.commands; numbers = z.numbers; above = z.above })
+    subst (Adds t 0 [] old) (sym p.3) (let z =
+    (then_same g (same_write call (range p.0 0 (length_of script buffer))
+    (padded 0 bytes (length_of script buffer)) _)) in
+    record {
+      past = z.past;
+      taken = z.taken;
+      later = z.later;
+      messages = z.messages;
+      values = z.values;
+      turns =
+          z.turns;
+      queries = z.queries;
+      commands = z.commands;
+      numbers = z.numbers;
+      above = z.above;
+    })
 plays_adds reading script call item ends (Discard buffer from bytes) bound turns old new p =
     let t = Item call item ends (Discard buffer from bytes) bound in
     let a = then_same (turn_adds t turns old) (same_block reading script buffer p.0 (with_turn t turns old) p.1 p.2) in
     let mid : Core = record p.1 { owner = retired (old.blocks buffer) (open_number old) p.1.owner } in
     let b = then_same (rest_adds mid a) (same_fenced (retired_by (old.owner p.0)) mid) in
     let g = then_same b (same_rest _ (gives_block buffer p.0 (fenced (retired_by (old.owner p.0)) mid))) in
-    subst (Adds t 0 [] old) (sym p.3) (let z = (then_same g (same_write call (range p.0 0 (script.size buffer)) (padded from bytes (script.size buffer)) _)) in
-    record { past = z.past; taken = z.taken; later = z.later; messages = z.messages; values = z.values; turns = z.turns; queries = z.queries; commands = z.commands; numbers = z.numbers; above = z.above })
+    subst (Adds t 0 [] old) (sym p.3) (let z =
+    (then_same g (same_write call (range p.0 0 (script.size buffer)) (padded from bytes (script.size buffer))
+    _)) in
+    record {
+      past = z.past;
+      taken = z.taken;
+      later = z.later;
+      messages = z.messages;
+      values = z.values;
+      turns =
+          z.turns;
+      queries = z.queries;
+      commands = z.commands;
+      numbers = z.numbers;
+      above = z.above;
+    })
 plays_adds reading script call item ends (No_overwrite buffer from bytes) bound turns old new p =
     let t = Item call item ends (No_overwrite buffer from bytes) bound in
-    subst (Adds t 0 [] old) (sym p) (let z = (then_same (turn_adds t turns old) (same_write call (range (block_of old.blocks buffer) from (from + length bytes)) bytes (with_turn t turns old))) in
-    record { past = z.past; taken = z.taken; later = z.later; messages = z.messages; values = z.values; turns = z.turns; queries = z.queries; commands = z.commands; numbers = z.numbers; above = z.above })
+    subst (Adds t 0 [] old) (sym p) (let z =
+    (then_same (turn_adds t turns old)
+    (same_write call (range (block_of old.blocks buffer) from (from + length bytes)) bytes
+    (with_turn t turns old))) in
+    record {
+      past = z.past;
+      taken = z.taken;
+      later = z.later;
+      messages = z.messages;
+      values = z.values;
+      turns =
+          z.turns;
+      queries = z.queries;
+      commands = z.commands;
+      numbers = z.numbers;
+      above = z.above;
+    })
 plays_adds reading script call item ends (Stage [] target skip) bound turns old new p =
     let t = Item call item ends (Stage [] target skip) bound in
     subst (Adds t 0 [] old) (sym p) (let z = (turn_adds t turns old) in
-    record { past = z.past; taken = z.taken; later = z.later; messages = z.messages; values = z.values; turns = z.turns; queries = z.queries; commands = z.commands; numbers = z.numbers; above = z.above })
+    record {
+      past = z.past;
+      taken = z.taken;
+      later = z.later;
+      messages = z.messages;
+      values = z.values;
+      turns =
+          z.turns;
+      queries = z.queries;
+      commands = z.commands;
+      numbers = z.numbers;
+      above = z.above;
+    })
 plays_adds reading script call item ends (Stage (b ∷ bs) None skip) bound turns old new p =
     let t = Item call item ends (Stage (b ∷ bs) None skip) bound in
     let s = p.0 in
     let paged : Core = with_page s p.1 (with_turn t turns old) in
-    subst (Adds t 0 [] old) (sym p.3) (let z = (then_same (rest_adds paged (turn_adds t turns old)) (same_write call (staged_range s (length (b ∷ bs))) (b ∷ bs) paged)) in
-    record { past = z.past; taken = z.taken; later = z.later; messages = z.messages; values = z.values; turns = z.turns; queries = z.queries; commands = z.commands; numbers = z.numbers; above = z.above })
+    subst (Adds t 0 [] old) (sym p.3) (let z =
+    (then_same (rest_adds paged (turn_adds t turns old))
+    (same_write call (staged_range s (length (b ∷ bs))) (b ∷ bs) paged)) in
+    record {
+      past = z.past;
+      taken = z.taken;
+      later = z.later;
+      messages = z.messages;
+      values = z.values;
+      turns =
+          z.turns;
+      queries = z.queries;
+      commands = z.commands;
+      numbers = z.numbers;
+      above = z.above;
+    })
 plays_adds reading script call item ends (Stage (b ∷ bs) (Some target) skip) bound turns old new p =
     let t = Item call item ends (Stage (b ∷ bs) (Some target) skip) bound in
     let s = p.0 in
     let paged : Core = with_page s p.1 (with_turn t turns old) in
-    let written = then_same (rest_adds paged (turn_adds t turns old)) (same_write call (staged_range s (length (b ∷ bs))) (b ∷ bs) paged) in
-    subst (Adds t 1 [] old) (sym p.3) (let z = (command_adds (new_command old call (work.Copy (staged_range s (length (b ∷ bs))) (range_on old.blocks target)) (cond_on old.blocks skip)) _ refl written) in
-    record { past = z.past; taken = z.taken; later = z.later; messages = z.messages; values = z.values; turns = z.turns; queries = z.queries; commands = z.commands; numbers = z.numbers; above = z.above })
+    let written = then_same (rest_adds paged (turn_adds t turns old))
+    (same_write call (staged_range s (length (b ∷ bs))) (b ∷ bs) paged) in
+    subst (Adds t 1 [] old) (sym p.3) (let z =
+    (command_adds
+    (new_command old call (work.Copy (staged_range s (length (b ∷ bs))) (range_on old.blocks target))
+    (cond_on old.blocks skip)) _ refl written) in
+    record {
+      past = z.past;
+      taken = z.taken;
+      later = z.later;
+      messages = z.messages;
+      values = z.values;
+      turns =
+          z.turns;
+      queries = z.queries;
+      commands = z.commands;
+      numbers = z.numbers;
+      above = z.above;
+    })
 plays_adds reading script call item ends (Command w skip) bound turns old new p =
     let t = Item call item ends (Command w skip) bound in
-    subst (Adds t 1 [] old) (sym p) (let z = (command_adds (new_command old call (work_on old.blocks w) (cond_on old.blocks skip)) _ refl (turn_adds t turns old)) in
-    record { past = z.past; taken = z.taken; later = z.later; messages = z.messages; values = z.values; turns = z.turns; queries = z.queries; commands = z.commands; numbers = z.numbers; above = z.above })
+    subst (Adds t 1 [] old) (sym p) (let z =
+    (command_adds (new_command old call (work_on old.blocks w) (cond_on old.blocks skip)) _ refl
+    (turn_adds t turns old)) in
+    record {
+      past = z.past;
+      taken = z.taken;
+      later = z.later;
+      messages = z.messages;
+      values = z.values;
+      turns =
+          z.turns;
+      queries = z.queries;
+      commands = z.commands;
+      numbers = z.numbers;
+      above = z.above;
+    })
 plays_adds reading script call item ends (Destroy buffer) bound turns old new p =
     let t = Item call item ends (Destroy buffer) bound in
     subst (Adds t 0 [] old) (sym p) (let z = (turn_adds t turns old) in
-    record { past = z.past; taken = z.taken; later = z.later; messages = z.messages; values = z.values; turns = z.turns; queries = z.queries; commands = z.commands; numbers = z.numbers; above = z.above })
+    record {
+      past = z.past;
+      taken = z.taken;
+      later = z.later;
+      messages = z.messages;
+      values = z.values;
+      turns =
+          z.turns;
+      queries = z.queries;
+      commands = z.commands;
+      numbers = z.numbers;
+      above = z.above;
+    })
 plays_adds reading script call item ends Create_shader bound turns old new p =
     let t = Item call item ends Create_shader bound in
     subst (Adds t 0 [] old) (sym p) (let z = (turn_adds t turns old) in
-    record { past = z.past; taken = z.taken; later = z.later; messages = z.messages; values = z.values; turns = z.turns; queries = z.queries; commands = z.commands; numbers = z.numbers; above = z.above })
+    record {
+      past = z.past;
+      taken = z.taken;
+      later = z.later;
+      messages = z.messages;
+      values = z.values;
+      turns =
+          z.turns;
+      queries = z.queries;
+      commands = z.commands;
+      numbers = z.numbers;
+      above = z.above;
+    })
 plays_adds reading script call item ends (Mark_query query begins) bound turns old new p =
     let t = Item call item ends (Mark_query query begins) bound in
     subst (Adds t 0 (turn_marks old.commands t) old) (sym p)
-    (record { past = refl; taken = refl; later = refl; messages = refl; values = refl; turns = refl; queries = refl; commands = omega arith; numbers = sym (append-nil (command_numbers old.open_chunk.commands)); above = λ k l h. h })
+    (record {
+      past = refl;
+      taken = refl;
+      later = refl;
+      messages = refl;
+      values = refl;
+      turns = refl;
+      queries =
+          refl;
+      commands = omega arith;
+      numbers = sym (append-nil (command_numbers old.open_chunk.commands));
+      above =
+          λ k l h. h;
+    })
 plays_adds reading script call item ends Set_state bound turns old new p =
     let t = Item call item ends Set_state bound in
     subst (Adds t 0 [] old) (sym p) (let z = (turn_adds t turns old) in
-    record { past = z.past; taken = z.taken; later = z.later; messages = z.messages; values = z.values; turns = z.turns; queries = z.queries; commands = z.commands; numbers = z.numbers; above = z.above })
+    record {
+      past = z.past;
+      taken = z.taken;
+      later = z.later;
+      messages = z.messages;
+      values = z.values;
+      turns =
+          z.turns;
+      queries = z.queries;
+      commands = z.commands;
+      numbers = z.numbers;
+      above = z.above;
+    })
 
-pub takes_adds : (reading : Reading) (script : Script) (t : Turn) (turns : List Turn) (old new : Core) → TakesTurn reading script t turns old new → Adds t (commands_by t) (turn_marks old.commands t) old new
-takes_adds reading script (Refused call) turns old new p = subst (Adds (Refused call) 0 [] old) (sym p) (let z = (turn_adds (Refused call) turns old) in
-    record { past = z.past; taken = z.taken; later = z.later; messages = z.messages; values = z.values; turns = z.turns; queries = z.queries; commands = z.commands; numbers = z.numbers; above = z.above })
-takes_adds reading script (Passed call) turns old new p = subst (Adds (Passed call) 0 [] old) (sym p) (turn_adds (Passed call) turns old)
-takes_adds reading script (Flushed call) turns old new p = subst (Adds (Flushed call) 0 [] old) (sym p) (turn_adds (Flushed call) turns old)
+pub takes_adds : (reading : Reading) (script : Script) (t : Turn) (turns : List Turn) (old new : Core)
+    → TakesTurn reading script t turns old new → Adds t (commands_by t) (turn_marks old.commands t) old new
+takes_adds reading script (Refused call) turns old new p = subst (Adds (Refused call) 0 [] old) (sym p) (let z =
+    (turn_adds (Refused call) turns old) in
+    record {
+      past = z.past;
+      taken = z.taken;
+      later = z.later;
+      messages = z.messages;
+      values = z.values;
+      turns =
+          z.turns;
+      queries = z.queries;
+      commands = z.commands;
+      numbers = z.numbers;
+      above = z.above;
+    })
+takes_adds reading script (Passed call) turns old new p = subst (Adds (Passed call) 0 [] old) (sym p)
+    (turn_adds (Passed call) turns old)
+takes_adds reading script (Flushed call) turns old new p = subst (Adds (Flushed call) 0 [] old) (sym p)
+    (turn_adds (Flushed call) turns old)
 takes_adds reading script (Asked call ask used may_pend) turns old new (inl h) =
-    let t = Asked call ask used may_pend in subst (Adds t 0 [] old) (sym h.1) (asked_adds script call ask used old (with_turn t turns old) t (turn_adds t turns old))
+    let t = Asked call ask used may_pend in subst (Adds t 0 [] old) (sym h.1)
+    (asked_adds script call ask used old (with_turn t turns old) t (turn_adds t turns old))
 takes_adds reading script (Asked call ask used may_pend) turns old new (inr h) =
     let t = Asked call ask used may_pend in subst (Adds t 0 [] old) (sym h.2) (let z = (turn_adds t turns old) in
-    record { past = z.past; taken = z.taken; later = z.later; messages = z.messages; values = z.values; turns = z.turns; queries = z.queries; commands = z.commands; numbers = z.numbers; above = z.above })
-takes_adds reading script (Item call item ends play bound) turns old new p = plays_adds reading script call item ends play bound turns old new p
+    record {
+      past = z.past;
+      taken = z.taken;
+      later = z.later;
+      messages = z.messages;
+      values = z.values;
+      turns =
+          z.turns;
+      queries = z.queries;
+      commands = z.commands;
+      numbers = z.numbers;
+      above = z.above;
+    })
+takes_adds reading script (Item call item ends play bound) turns old new p =
+    plays_adds reading script call item ends play bound turns old new p

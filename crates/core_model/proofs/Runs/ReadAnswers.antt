@@ -1,5 +1,7 @@
 -- Each reply with bytes has its host read, and each host read its reply, in every state that steps reach.
-use Rattle.std.proofs.Common.{◌≡◌, ℕ, suc, ◌-◌, ◌<◌, ◌≤◌, Bool, true, false, List, [], ◌∷◌, ◌++◌, map, length, refl, sym, ap, ◌∙◌, subst, ◌⊎◌, inl, inr, Option, Some, None, arith, append_assoc, append-nil, length-append}
+use Rattle.std.proofs.Common.{◌≡◌, ℕ, suc, ◌-◌, ◌<◌, ◌≤◌, Bool, true, false, List, [], ◌∷◌, ◌++◌, map, length, refl}
+use Rattle.std.proofs.Common.{sym, ap, ◌∙◌, subst, ◌⊎◌, inl, inr, Option, Some, None, arith, append_assoc, append-nil}
+use Rattle.std.proofs.Common.{length-append}
 use Rattle.std.specs.List.{AllByRecursion}
 use Rattle.dx_types.specs.declared.range.Range.{Range}
 use Rattle.vk_types.specs.declared.op.VkOp.{VkOp}
@@ -7,13 +9,16 @@ use Rattle.vk_types.specs.declared.op.VkOp.TheVariants as op
 use Rattle.base_lemmas.specs.Lists.{numbers_from}
 use Rattle.vk_types.specs.Memory.{zeros, range, or_zero}
 use Rattle.vk_types.specs.Effects.{Meaning, Host_write, Device, Host_read}
-use Rattle.vk_types.specs.Entries.{Entry, run_entries, Counts, counted, next, after_host, after_barrier, after_submit, after_fence, first_of, rest_of, start_counts}
+use Rattle.vk_types.specs.Entries.{Entry, run_entries, Counts, counted, next, after_host, after_barrier, after_submit}
+use Rattle.vk_types.specs.Entries.{after_fence, first_of, rest_of, start_counts}
 use Rattle.vk_types.specs.Listing.{written_ranges}
 use Rattle.base_lemmas.proofs.Lists.{all_append, all_map, all_back}
-use Rattle.core_model.specs.Script.{Bytes, Count, Constant, Turn, Refused, Passed, Flushed, Asked, Item, Script, at_start, in_order}
+use Rattle.core_model.specs.Script.{Bytes, Count, Constant, Turn, Refused, Passed, Flushed, Asked, Item, Script}
+use Rattle.core_model.specs.Script.{at_start, in_order}
 use Rattle.core_model.specs.Chunking.{is_due}
 use Rattle.core_model.specs.Renaming.{block_of, range_on}
-use Rattle.core_model.specs.CoreState.{Core, start, listed, done, Said, Bytes_said, Value_said, Still_said, Refused_said, End_said}
+use Rattle.core_model.specs.CoreState.{Core, start, listed, done, Said, Bytes_said, Value_said, Still_said}
+use Rattle.core_model.specs.CoreState.{Refused_said, End_said}
 use Rattle.core_model.specs.Readings.{Reading}
 use Rattle.core_model.specs.Listed.{plain, plain_entries}
 use Rattle.core_model.specs.Adding.{with_turn, with_reply}
@@ -28,174 +33,22 @@ use Rattle.core_model.proofs.Steps.Segments.{listed_split}
 use Rattle.core_model.proofs.Runs.LastUses.{is_bare}
 use Rattle.core_model.proofs.Steps.ReadingBack.{map_numbers, right_bytes}
 use Rattle.core_model.proofs.Runs.StepsKeepAll.{posts_kept}
-use Rattle.core_model.proofs.Runs.HostReading.{is_read, is_answer, Grown, still, and_then, says_more, posts_grown, fence_grown, play_grown, handed_grown, other_grown}
+use Rattle.core_model.proofs.Runs.HostReading.{is_read, is_answer, Grown, still, and_then, says_more, posts_grown}
+use Rattle.core_model.proofs.Runs.HostReading.{fence_grown, play_grown, handed_grown, other_grown}
+pub use Rattle.core_model.proofs.Runs.SaidReads.{Leaves, ReadOf, SaidRight, Answered, read_within}
+use Rattle.core_model.proofs.Runs.SaidReads.{ReadRight, read_last, said_more, right_more, grown_answered}
 
--- The entries of a front of the listing leave the bytes of a range, and the host's bytes for it are there
-pub record Leaves (meaning : Meaning) (contents : List (List ℕ)) (front : List VkOp) (r : Range) (bytes : List ℕ) : Type 0 where
-  pub filled : r.from < r.to
-  pub given : length (written_ranges front) ≤ length contents
-  pub left : map (run_entries meaning (plain_entries start_counts contents front) zeros r.block) (numbers_from r.from (r.to - r.from)) ≡ bytes
-
--- a host read, and its reply
-pub record ReadRight (meaning : Meaning) (script : Script) (contents : List (List ℕ)) (replies : List Said) (front : List VkOp) (r : Range) (call : ℕ) : Type 0 where
-  pub source : Range
-  pub used : ℕ
-  pub at : IsAsked script call (Bytes source) (Some used)
-  pub is : r ≡ range r.block source.from source.to
-  pub before : List Said
-  pub after : List Said
-  pub said : replies ≡ before ++ Bytes_said call (bytes_in_order meaning script at.front source) ∷ after
-  pub leaves : Leaves meaning contents front r (bytes_in_order meaning script at.front source)
-
--- a reply, and its host read
-abbrev pub ReadOf : Meaning → List VkOp → List (List ℕ) → ℕ → Range → List ℕ → Option ℕ → Type 0
-ReadOf meaning listing contents call source bytes None = Unit {0}
-ReadOf meaning listing contents call source bytes (Some used) =
-    (block : ℕ) × (front : List VkOp) × (back : List VkOp) × (listing ≡ front ++ op.HostRead (range block source.from source.to) call ∷ back)
-    × Leaves meaning contents front (range block source.from source.to) bytes
-
-abbrev pub SaidRight : Meaning → Script → List VkOp → List (List ℕ) → Said → Type 0
-SaidRight meaning script listing contents (Bytes_said call bytes) =
-    (source : Range) × (used : Option ℕ) × (at : IsAsked script call (Bytes source) used) × (bytes ≡ bytes_in_order meaning script at.front source)
-    × ReadOf meaning listing contents call source bytes used
-SaidRight meaning script listing contents (Value_said call value) = Unit {0}
-SaidRight meaning script listing contents (Still_said call used finished) = Unit {0}
-SaidRight meaning script listing contents (Refused_said call) = Unit {0}
-SaidRight meaning script listing contents End_said = Unit {0}
-
-pub record Answered (meaning : Meaning) (script : Script) (core : Core) : Type 0 where
-  pub reads : (front : List VkOp) (r : Range) (call : ℕ) (back : List VkOp) → core.listing ≡ front ++ op.HostRead r call ∷ back
-      → ReadRight meaning script core.contents core.replies front r call
-  pub said : AllByRecursion (SaidRight meaning script core.listing core.contents) core.replies
-
--- More is listed, written and said ---------------------------------------------------------------------------------------------------
-
-first_more : (contents more : List (List ℕ)) → 0 < length contents → first_of (contents ++ more) ≡ first_of contents
-first_more [] more l = absurd (let z : ⊥ = omega (arith, l) in z)
-first_more (b ∷ bs) more l = refl
-
-rest_more : (contents more : List (List ℕ)) → 0 < length contents → (rest_of (contents ++ more) ≡ rest_of contents ++ more) × (suc (length (rest_of contents)) ≡ length contents)
-rest_more [] more l = absurd (let z : ⊥ = omega (arith, l) in z)
-rest_more (b ∷ bs) more l = (refl, refl)
-
-abbrev written_entry : Counts → Range → List ℕ → Entry
-written_entry c r bs = record { act = Host_write r bs; chunk = c.chunk; epoch = 0; fence = c.fence; number = c.number }
-
-entries_more : (c : Counts) (contents more : List (List ℕ)) (ops : List VkOp) → length (written_ranges ops) ≤ length contents → plain_entries c (contents ++ more) ops ≡ plain_entries c contents ops
-entries_more c contents more [] l = refl
-entries_more c contents more (op.HostWrite r call ∷ ops) l =
-    let some : 0 < length contents = omega (arith, l) in
-    let rest = rest_more contents more some in
-    let length_is = rest.1 in
-    let a : plain_entries c (contents ++ more) (op.HostWrite r call ∷ ops) ≡ written_entry c r (first_of contents) ∷ plain_entries (after_host c) (rest_of (contents ++ more)) ops =
-    ap (λ bs. written_entry c r bs ∷ plain_entries (after_host c) (rest_of (contents ++ more)) ops) (first_more contents more some) in
-    let b : plain_entries (after_host c) (rest_of (contents ++ more)) ops ≡ plain_entries (after_host c) (rest_of contents) ops =
-    ap (λ l. plain_entries (after_host c) l ops) rest.0 ∙ entries_more (after_host c) (rest_of contents) more ops (omega (arith, l, length_is)) in
-    a ∙ ap (λ l. written_entry c r (first_of contents) ∷ l) b
-entries_more c contents more (op.Pipeline shader ∷ ops) l = entries_more (next c) contents more ops l
-entries_more c contents more (op.Barrier barrier ∷ ops) l = entries_more (after_barrier c barrier) contents more ops l
-entries_more c contents more (op.Command d ∷ ops) l = ap (λ l. plain (counted c (Device d)).entry ∷ l) (entries_more (next c) contents more ops l)
-entries_more c contents more (op.Submit k ∷ ops) l = entries_more (after_submit c k) contents more ops l
-entries_more c contents more (op.Fence k ∷ ops) l = entries_more (after_fence c k) contents more ops l
-entries_more c contents more (op.HostRead r call ∷ ops) l = ap (λ l. plain (counted c (Host_read r)).entry ∷ l) (entries_more (after_host c) contents more ops l)
-
-leaves_more : (meaning : Meaning) (contents more now : List (List ℕ)) (front : List VkOp) (r : Range) (bytes : List ℕ) → now ≡ contents ++ more → Leaves meaning contents front r bytes → Leaves meaning now front r bytes
-leaves_more meaning contents more now front r bytes e h = record {
-  filled = h.filled;
-  given = let a = h.given in let b = length-append contents more in let c : length now ≡ length (contents ++ more) = ap length e in omega (arith, a, b, c);
-  left = ap (λ es. map (run_entries meaning es zeros r.block) (numbers_from r.from (r.to - r.from))) (ap (λ c. plain_entries start_counts c front) e ∙ entries_more start_counts contents more front h.given) ∙ h.left;
-}
-
--- a host read in the first of two lists, if the second has none
-pub read_within : (xs ys front : List VkOp) (r : Range) (call : ℕ) (back : List VkOp) → AllByRecursion (λ o. is_read o ≡ false) ys → xs ++ ys ≡ front ++ op.HostRead r call ∷ back
-    → (rest : List VkOp) × (xs ≡ front ++ op.HostRead r call ∷ rest)
-read_within [] ys front r call back h e =
-    let k : AllByRecursion (λ o. is_read o ≡ false) (op.HostRead r call ∷ back) = all_back (λ o. is_read o ≡ false) front (op.HostRead r call ∷ back) (subst (AllByRecursion (λ o. is_read o ≡ false)) e h) in
-    absurd (let z = k.0 in cc z)
-read_within (x ∷ xs) ys [] r call back h e = let s : x ≡ op.HostRead r call = cc e in (xs, ap (λ o. o ∷ xs) s)
-read_within (x ∷ xs) ys (f ∷ front) r call back h e =
-    let s : x ≡ f = cc e in
-    let t : xs ++ ys ≡ front ++ op.HostRead r call ∷ back = cc e in
-    let w = read_within xs ys front r call back h t in
-    (w.0, ap (λ o. o ∷ xs) s ∙ ap (λ l. f ∷ l) w.1)
-
--- it is in the list, or the one that was put behind it
-read_last : (xs : List VkOp) (q : Range) (c : ℕ) (front : List VkOp) (r : Range) (call : ℕ) (back : List VkOp) → xs ++ op.HostRead q c ∷ [] ≡ front ++ op.HostRead r call ∷ back
-    → ((rest : List VkOp) × (xs ≡ front ++ op.HostRead r call ∷ rest)) ⊎ ((front ≡ xs) × (r ≡ q) × (call ≡ c))
-read_last [] q c [] r call back e =
-    let s : op.HostRead q c ≡ op.HostRead r call = cc e in
-    let a : q ≡ r = cc s in
-    let b : c ≡ call = cc s in
-    inr (refl, sym a, sym b)
-read_last [] q c (f ∷ []) r call back e = absurd (cc e)
-read_last [] q c (f ∷ g ∷ front) r call back e = absurd (cc e)
-read_last (x ∷ xs) q c [] r call back e = let s : x ≡ op.HostRead r call = cc e in inl (xs, ap (λ o. o ∷ xs) s)
-read_last (x ∷ xs) q c (f ∷ front) r call back e =
-    let s : x ≡ f = cc e in
-    let t : xs ++ op.HostRead q c ∷ [] ≡ front ++ op.HostRead r call ∷ back = cc e in
-    elim (read_last xs q c front r call back t) [
-      | inl w ↦ inl (w.0, ap (λ o. o ∷ xs) s ∙ ap (λ l. f ∷ l) w.1)
-      | inr w ↦ inr (ap (λ l. f ∷ l) w.0 ∙ ap (λ o. o ∷ xs) (sym s), w.1, w.2)
-    ]
-
-module _ (meaning : Meaning) (script : Script) where
-  -- what is known of a reply still is
-  read_of_more : (listing more now : List VkOp) (contents written after : List (List ℕ)) (call : ℕ) (source : Range) (bytes : List ℕ) (used : Option ℕ) → now ≡ listing ++ more → after ≡ contents ++ written
-      → ReadOf meaning listing contents call source bytes used → ReadOf meaning now after call source bytes used
-  read_of_more listing more now contents written after call source bytes None e f h = tt
-  read_of_more listing more now contents written after call source bytes (Some used) e f h =
-      let r = range h.0 source.from source.to in
-      (h.0, h.1, h.2 ++ more, e ∙ ap (λ l. l ++ more) h.3 ∙ append_assoc h.1 (op.HostRead r call ∷ h.2) more, leaves_more meaning contents written after h.1 r bytes f h.4)
-
-  said_more : (listing more now : List VkOp) (contents written after : List (List ℕ)) → now ≡ listing ++ more → after ≡ contents ++ written → (s : Said)
-      → SaidRight meaning script listing contents s → SaidRight meaning script now after s
-  said_more listing more now contents written after e f (Bytes_said call bytes) h = (h.0, h.1, h.2, h.3, read_of_more listing more now contents written after call h.0 bytes h.1 e f h.4)
-  said_more listing more now contents written after e f (Value_said call value) h = tt
-  said_more listing more now contents written after e f (Still_said call used finished) h = tt
-  said_more listing more now contents written after e f (Refused_said call) h = tt
-  said_more listing more now contents written after e f End_said h = tt
-
-  said_mute : (listing : List VkOp) (contents : List (List ℕ)) (s : Said) → is_answer s ≡ false → SaidRight meaning script listing contents s
-  said_mute listing contents (Bytes_said call bytes) h = absurd (cc h)
-  said_mute listing contents (Value_said call value) h = tt
-  said_mute listing contents (Still_said call used finished) h = tt
-  said_mute listing contents (Refused_said call) h = tt
-  said_mute listing contents End_said h = tt
-
-  -- a host read that was there has its reply
-  right_more : (contents written now : List (List ℕ)) (replies said after : List Said) (front : List VkOp) (r : Range) (call : ℕ) → now ≡ contents ++ written → after ≡ replies ++ said
-      → ReadRight meaning script contents replies front r call → ReadRight meaning script now after front r call
-  right_more contents written now replies said after front r call e f h = record {
-    source = h.source;
-    used = h.used;
-    at = h.at;
-    is = h.is;
-    before = h.before;
-    after = h.after ++ said;
-    said = f ∙ ap (λ l. l ++ said) h.said ∙ append_assoc h.before (Bytes_said call (bytes_in_order meaning script h.at.front h.source) ∷ h.after) said;
-    leaves = leaves_more meaning contents written now front r (bytes_in_order meaning script h.at.front h.source) e h.leaves;
-  }
-
-  pub grown_answered : (old new : Core) → Grown old new → Answered meaning script old → Answered meaning script new
-  grown_answered old new g h = record {
-    reads = λ front r call back e.
-        let w = read_within old.listing g.more front r call back g.unread (sym g.listing ∙ e) in
-        right_more old.contents g.written new.contents old.replies g.said new.replies front r call g.contents g.replies (h.reads front r call w.0 w.1);
-    said =
-        subst (AllByRecursion (SaidRight meaning script new.listing new.contents)) (sym g.replies)
-        (all_append (SaidRight meaning script new.listing new.contents) old.replies g.said
-        (all_map (SaidRight meaning script old.listing old.contents) (SaidRight meaning script new.listing new.contents) (λ s k. said_more old.listing g.more new.listing old.contents g.written new.contents g.listing g.contents s k) old.replies h.said)
-        (all_map (λ s. is_answer s ≡ false) (SaidRight meaning script new.listing new.contents) (λ s k. said_mute new.listing new.contents s k) g.said g.mute));
-  }
-
--- A call is answered in bytes --------------------------------------------------------------------------------------------------------
+-- A call is answered in bytes ---------------------------------------------------------------------------------------
 
 length_map : {A B : Type 0} (f : A → B) (xs : List A) → length (map f xs) ≡ length xs
 length_map f [] = refl
 length_map f (x ∷ xs) = ap suc (length_map f xs)
 
-module _ (meaning : Meaning) (reading : Reading) (script : Script) (lawful : IsLawful meaning script) (old : Core) (call : ℕ) (source : Range) (used : Option ℕ) (may_pend : Bool) (turns : List Turn)
-    (e : old.future ≡ Asked call (Bytes source) used may_pend ∷ turns) (due : is_due script old.open_chunk.turns old.future ≡ false) (k : Kept meaning reading script old) (fin : is_finished used (done old) ≡ true)
+module _ (meaning : Meaning) (reading : Reading) (script : Script) (lawful : IsLawful meaning script) (old : Core)
+    (call : ℕ) (source : Range) (used : Option ℕ) (may_pend : Bool) (turns : List Turn)
+    (e : old.future ≡ Asked call (Bytes source) used may_pend ∷ turns)
+    (due : is_due script old.open_chunk.turns old.future ≡ false) (k : Kept meaning reading script old)
+    (fin : is_finished used (done old) ≡ true)
     (answered : Answered meaning script old) where
   abbrev taken : Core
   taken = with_turn (Asked call (Bytes source) used may_pend) turns old
@@ -223,20 +76,27 @@ module _ (meaning : Meaning) (reading : Reading) (script : Script) (lawful : IsL
       let long = asks.0.1 in
       let has = k.good.stands.has_block source.block asks.0.0 in
       let filled : length old.contents ≡ length (written_ranges old.listing) =
-      sym (length_map length old.contents) ∙ ap length k.good.sound.grows.filled ∙ length_map (λ r. r.to - r.from) (written_ranges old.listing) in
-      let none : old.open_chunk.commands ≡ [] = (k.traced.quiet (is_bare meaning reading script lawful old k call (Bytes source) used may_pend turns e due)).1 in
+      sym (length_map length old.contents) ∙ ap length k.good.sound.grows.filled
+      ∙ length_map (λ r. r.to - r.from) (written_ranges old.listing) in
+      let none : old.open_chunk.commands ≡ [] =
+      (k.traced.quiet (is_bare meaning reading script lawful old k call (Bytes source) used may_pend turns e
+      due)).1 in
       let all : plain_entries start_counts old.contents old.listing ≡ listed old =
-      k.good.sound.grows.entries ∙ sym (listed_split old ∙ ap (λ l. listed_acts old ++ l) none ∙ append-nil (listed_acts old)) in
+      k.good.sound.grows.entries ∙ sym (listed_split old ∙ ap (λ l. listed_acts old ++ l) none
+      ∙ append-nil (listed_acts old)) in
       record {
         filled = asks.2;
         given = omega (arith, filled);
         left =
-            ap (λ es. map (run_entries meaning es zeros r.block) (numbers_from source.from (source.to - source.from))) all
-            ∙ map_numbers (run_entries meaning (listed old) zeros r.block) ((in_order meaning script old.past at_start).bytes source.block) source.from (source.to - source.from)
+            ap (λ es. map (run_entries meaning es zeros r.block)
+            (numbers_from source.from (source.to - source.from))) all
+            ∙ map_numbers (run_entries meaning (listed old) zeros r.block)
+            ((in_order meaning script old.past at_start).bytes source.block) source.from (source.to - source.from)
             (λ i l u.
             let less = asks.2 in
             let inside : i < script.size source.block = omega (arith, u, less, long) in
-            ap (λ b. run_entries meaning (listed old) zeros b i) (ap or_zero has.1) ∙ k.good.stands.bytes source.block has.0 i has.1 inside);
+            ap (λ b. run_entries meaning (listed old) zeros b i) (ap or_zero has.1)
+            ∙ k.good.stands.bytes source.block has.0 i has.1 inside);
       }
 
   abbrev reply : List Said → List Said
@@ -246,21 +106,33 @@ module _ (meaning : Meaning) (reading : Reading) (script : Script) (lawful : IsL
   none_written = sym (append-nil old.contents)
 
   -- the replies so far, and this one
-  with_said : (listing more : List VkOp) → listing ≡ old.listing ++ more → ReadOf meaning listing old.contents call source bytes used
+  with_said : (listing more : List VkOp) → listing ≡ old.listing ++ more
+      → ReadOf meaning listing old.contents call source bytes used
       → AllByRecursion (SaidRight meaning script listing old.contents) (reply old.replies)
   with_said listing more f h =
       all_append (SaidRight meaning script listing old.contents) old.replies (Bytes_said call bytes ∷ [])
-      (all_map (SaidRight meaning script old.listing old.contents) (SaidRight meaning script listing old.contents) (λ s k. said_more meaning script old.listing more listing old.contents [] old.contents f none_written s k) old.replies answered.said)
+      (all_map (SaidRight meaning script old.listing old.contents) (SaidRight meaning script listing old.contents)
+      (λ s k. said_more meaning script old.listing more listing old.contents [] old.contents f none_written s k)
+      old.replies answered.said)
       ((source, used, at, right, h), tt)
 
-  still_read : (front : List VkOp) (q : Range) (c : ℕ) (back : List VkOp) → old.listing ≡ front ++ op.HostRead q c ∷ back → ReadRight meaning script old.contents (reply old.replies) front q c
-  still_read front q c back f = right_more meaning script old.contents [] old.contents old.replies (Bytes_said call bytes ∷ []) (reply old.replies) front q c none_written refl (answered.reads front q c back f)
+  still_read : (front : List VkOp) (q : Range) (c : ℕ) (back : List VkOp)
+      → old.listing ≡ front ++ op.HostRead q c ∷ back → ReadRight meaning script old.contents (reply old.replies)
+      front q c
+  still_read front q c back f = right_more meaning script old.contents [] old.contents old.replies
+      (Bytes_said call bytes ∷ []) (reply old.replies) front q c none_written refl (answered.reads front q c back f)
 
   new_read : (u : ℕ) → used ≡ Some u → ReadRight meaning script old.contents (reply old.replies) old.listing r call
   new_read u is = record {
     source = source;
     used = u;
-    at = record { front = old.past; may_pend = may_pend; back = turns; here = place ∙ ap (λ u. old.past ++ Asked call (Bytes source) u may_pend ∷ turns) is };
+    at = record {
+      front = old.past;
+      may_pend = may_pend;
+      back = turns;
+      here = place
+          ∙ ap (λ u. old.past ++ Asked call (Bytes source) u may_pend ∷ turns) is;
+    };
     is = refl;
     before = old.replies;
     after = [];
@@ -268,10 +140,12 @@ module _ (meaning : Meaning) (reading : Reading) (script : Script) (lawful : IsL
     leaves = leaves;
   }
 
-  by_use : (u : Option ℕ) → used ≡ u → Answered meaning script (with_reply (Bytes_said call bytes) (with_read call r u taken))
+  by_use : (u : Option ℕ) → used ≡ u → Answered meaning script
+      (with_reply (Bytes_said call bytes) (with_read call r u taken))
   by_use None is = record {
     reads = still_read;
-    said = with_said old.listing [] (sym (append-nil old.listing)) (subst (ReadOf meaning old.listing old.contents call source bytes) (sym is) tt);
+    said = with_said old.listing [] (sym (append-nil old.listing))
+        (subst (ReadOf meaning old.listing old.contents call source bytes) (sym is) tt);
   }
   by_use (Some u) is = record {
     reads = λ front q c back f.
@@ -280,18 +154,24 @@ module _ (meaning : Meaning) (reading : Reading) (script : Script) (lawful : IsL
           | inr w ↦
               subst (λ f. ReadRight meaning script old.contents (reply old.replies) f q c) (sym w.0)
               (subst (λ q. ReadRight meaning script old.contents (reply old.replies) old.listing q c) (sym w.1)
-              (subst (λ c. ReadRight meaning script old.contents (reply old.replies) old.listing r c) (sym w.2) (new_read u is)))
+              (subst (λ c. ReadRight meaning script old.contents (reply old.replies) old.listing r c) (sym w.2)
+              (new_read u is)))
         ];
     said =
         with_said (old.listing ++ op.HostRead r call ∷ []) (op.HostRead r call ∷ []) refl
-        (subst (ReadOf meaning (old.listing ++ op.HostRead r call ∷ []) old.contents call source bytes) (sym is)
-        (block_of old.blocks source.block, old.listing, [], refl, subst (Leaves meaning old.contents old.listing r) (sym right) leaves));
+        (subst (ReadOf meaning (old.listing ++ op.HostRead r call ∷ []) old.contents call source bytes) (sym is) (
+          block_of old.blocks source.block,
+          old.listing,
+          [],
+          refl,
+          subst (Leaves meaning old.contents old.listing r) (sym right) leaves,
+        ));
   }
 
   pub bytes_answered : Answered meaning script (answer call (Bytes source) used taken)
   bytes_answered = by_use used refl
 
--- Steps ------------------------------------------------------------------------------------------------------------------------------
+-- Steps -------------------------------------------------------------------------------------------------------------
 
 module _ (meaning : Meaning) (reading : Reading) (script : Script) (lawful : IsLawful meaning script) where
   abbrev Keeps : Core → Core → Type 0
@@ -300,25 +180,39 @@ module _ (meaning : Meaning) (reading : Reading) (script : Script) (lawful : IsL
   grows : (old new : Core) → Grown old new → Keeps old new
   grows old new g h = grown_answered meaning script old new g h
 
-  says : (old : Core) (t : Turn) (turns : List Turn) (said : Said) → is_answer said ≡ false → Grown old (with_reply said (with_turn t turns old))
-  says old t turns said h = and_then old (with_turn t turns old) (with_reply said (with_turn t turns old)) (still old _ refl refl refl) (says_more (with_turn t turns old) said h)
+  says : (old : Core) (t : Turn) (turns : List Turn) (said : Said) → is_answer said ≡ false
+      → Grown old (with_reply said (with_turn t turns old))
+  says old t turns said h = and_then old (with_turn t turns old) (with_reply said (with_turn t turns old))
+      (still old _ refl refl refl) (says_more (with_turn t turns old) said h)
 
-  turn_answered : (old : Core) (t : Turn) (turns : List Turn) (new : Core) → old.future ≡ t ∷ turns → is_due script old.open_chunk.turns old.future ≡ false → TakesTurn reading script t turns old new
+  turn_answered : (old : Core) (t : Turn) (turns : List Turn) (new : Core) → old.future ≡ t ∷ turns
+      → is_due script old.open_chunk.turns old.future ≡ false → TakesTurn reading script t turns old new
       → Kept meaning reading script old → Keeps old new
-  turn_answered old (Refused call) turns new e due n k h = grows old new (subst (Grown old) (sym n) (says old (Refused call) turns (Refused_said call) refl)) h
-  turn_answered old (Passed call) turns new e due n k h = grows old new (subst (Grown old) (sym n) (still old _ refl refl refl)) h
-  turn_answered old (Flushed call) turns new e due n k h = grows old new (subst (Grown old) (sym n) (still old _ refl refl refl)) h
+  turn_answered old (Refused call) turns new e due n k h = grows old new
+      (subst (Grown old) (sym n) (says old (Refused call) turns (Refused_said call) refl)) h
+  turn_answered old (Passed call) turns new e due n k h = grows old new
+      (subst (Grown old) (sym n) (still old _ refl refl refl)) h
+  turn_answered old (Flushed call) turns new e due n k h = grows old new
+      (subst (Grown old) (sym n) (still old _ refl refl refl)) h
   turn_answered old (Asked call (Bytes source) used may_pend) turns new e due (inl n) k h =
-      subst (Answered meaning script) (sym n.1) (bytes_answered meaning reading script lawful old call source used may_pend turns e due k n.0 h)
+      subst (Answered meaning script) (sym n.1) (bytes_answered meaning reading script lawful old call source used
+      may_pend turns e due k n.0 h)
   turn_answered old (Asked call (Count query) used may_pend) turns new e due (inl n) k h =
-      grows old new (subst (Grown old) (sym n.1) (says old (Asked call (Count query) used may_pend) turns (Value_said call (old.values query)) refl)) h
+      grows old new
+      (subst (Grown old) (sym n.1) (says old (Asked call (Count query) used may_pend) turns
+      (Value_said call (old.values query)) refl)) h
   turn_answered old (Asked call (Constant value) used may_pend) turns new e due (inl n) k h =
-      grows old new (subst (Grown old) (sym n.1) (says old (Asked call (Constant value) used may_pend) turns (Value_said call value) refl)) h
+      grows old new
+      (subst (Grown old) (sym n.1) (says old (Asked call (Constant value) used may_pend) turns
+      (Value_said call value) refl)) h
   turn_answered old (Asked call ask used may_pend) turns new e due (inr n) k h =
-      grows old new (subst (Grown old) (sym n.2) (says old (Asked call ask used may_pend) turns (Still_said call (used_or_zero used) (done old)) refl)) h
+      grows old new
+      (subst (Grown old) (sym n.2) (says old (Asked call ask used may_pend) turns
+      (Still_said call (used_or_zero used) (done old)) refl)) h
   turn_answered old (Item call item ends play bound) turns new e due n k h =
       let t = Item call item ends play bound in
-      grows old new (and_then old (with_turn t turns old) new (still old (with_turn t turns old) refl refl refl) (play_grown reading script call item play bound (with_turn t turns old) new n)) h
+      grows old new (and_then old (with_turn t turns old) new (still old (with_turn t turns old) refl refl refl)
+      (play_grown reading script call item play bound (with_turn t turns old) new n)) h
 
   acts_answered : (old new : Core) → Acts reading script old new → Kept meaning reading script old → Keeps old new
   acts_answered old new a k h =
@@ -328,13 +222,17 @@ module _ (meaning : Meaning) (reading : Reading) (script : Script) (lawful : IsL
           | inl c ↦ turn_answered old c.1 c.2 new c.3 c.0 c.4 k h
           | inr c ↦
               let ended : Core = record old { ended = true } in
-              grows old new (subst (Grown old) (sym c.3) (and_then old ended _ (still old ended refl refl refl) (says_more ended End_said refl))) h
+              grows old new
+              (subst (Grown old) (sym c.3) (and_then old ended _ (still old ended refl refl refl)
+              (says_more ended End_said refl))) h
         ]
       ]
 
-  pub step_answered : (old : Core) (e : Event) (new : Core) → Step meaning reading script old e new → Kept meaning reading script old → Keeps old new
+  pub step_answered : (old : Core) (e : Event) (new : Core) → Step meaning reading script old e new
+      → Kept meaning reading script old → Keeps old new
   step_answered old (App n) new p k h =
-      let mid = grows old (with_fence n p.2) (and_then old p.2 (with_fence n p.2) (posts_grown n old p.2 p.3) (fence_grown n p.2)) h in
+      let mid = grows old (with_fence n p.2) (and_then old p.2 (with_fence n p.2) (posts_grown n old p.2 p.3)
+      (fence_grown n p.2)) h in
       elim p.4 [
         | inl a ↦ acts_answered (with_fence n p.2) new a (posts_kept meaning reading script n old p.2 p.3 k) mid
         | inr a ↦ subst (Answered meaning script) (sym a.2) mid
@@ -346,7 +244,8 @@ module _ (meaning : Meaning) (reading : Reading) (script : Script) (lawful : IsL
   step_answered old (Run j) new p k h = grows old new (other_grown meaning reading script old (Run j) new refl p) h
   step_answered old Complete new p k h = grows old new (other_grown meaning reading script old Complete new refl p) h
   step_answered old Finish new p k h = grows old new (other_grown meaning reading script old Finish new refl p) h
-  step_answered old (Come_home block place) new p k h = grows old new (other_grown meaning reading script old (Come_home block place) new refl p) h
+  step_answered old (Come_home block place) new p k h = grows old new
+      (other_grown meaning reading script old (Come_home block place) new refl p) h
 
   pub start_answered : Answered meaning script (start script)
   start_answered = record { reads = λ front r call back e. absurd (none front r call back e); said = tt }

@@ -56,7 +56,13 @@ abbrev q15 : Next q14.0 Finish
 q15 = (_, (refl, (_, (_, _, refl, refl, refl), _, _, refl, refl)))
 
 abbrev q16 : Next q15.0 (App 1)
-q16 = (_, (refl, (refl, (λ h. refl), _, (_, _, refl, refl), inl (refl, inr (inl (refl, _, _, refl, inl (refl, refl)))))))
+q16 = (
+  _,
+  (
+    refl,
+    (refl, (λ h. refl), _, (_, _, refl, refl), inl (refl, inr (inl (refl, _, _, refl, inl (refl, refl))))),
+  ),
+)
 
 abbrev q17 : Next q16.0 (App 0)
 q17 = (_, (refl, (refl, (λ h. refl), _, refl, inl (refl, inr (inr (refl, refl, (omega arith), refl))))))
@@ -66,7 +72,59 @@ plays_one_query = (
   q17.0,
   (
     q17.0,
-    (q1.0, inl q1.1, (q2.0, inl q2.1, (q3.0, inl q3.1, (q4.0, inl q4.1, (q5.0, inl q5.1, (q6.0, inl q6.1, (q7.0, inl q7.1, (q8.0, inl q8.1, (q9.0, inl q9.1, (q10.0, inl q10.1, (q11.0, inl q11.1, (q12.0, inl q12.1, (q13.0, inl q13.1, (q14.0, inl q14.1, (q15.0, inl q15.1, (q16.0, inl q16.1, (q17.0, inl q17.1, refl))))))))))))))))),
+    (
+      q1.0,
+      inl q1.1,
+      (
+        q2.0,
+        inl q2.1,
+        (
+          q3.0,
+          inl q3.1,
+          (
+            q4.0,
+            inl q4.1,
+            (
+              q5.0,
+              inl q5.1,
+              (
+                q6.0,
+                inl q6.1,
+                (
+                  q7.0,
+                  inl q7.1,
+                  (
+                    q8.0,
+                    inl q8.1,
+                    (
+                      q9.0,
+                      inl q9.1,
+                      (
+                        q10.0,
+                        inl q10.1,
+                        (
+                          q11.0,
+                          inl q11.1,
+                          (
+                            q12.0,
+                            inl q12.1,
+                            (
+                              q13.0,
+                              inl q13.1,
+                              (q14.0, inl q14.1, (q15.0, inl q15.1, (q16.0, inl q16.1, (q17.0, inl q17.1, refl)))),
+                            ),
+                          ),
+                        ),
+                      ),
+                    ),
+                  ),
+                ),
+              ),
+            ),
+          ),
+        ),
+      ),
+    ),
     At_end _ refl,
   ),
   refl,

@@ -8,7 +8,8 @@ use Rattle.core_model.specs.Readings.{First_choices}
 use Rattle.core_model.specs.CoreStep.{Event, CoreStep, App, Cs, Submit, Accept, Run, Complete, Finish}
 use Rattle.core_model.specs.Runs.{At_end, Settling}
 use Rattle.core_model.specs.WorkedLogs.{no_shaders, update_copy_map, PlaysUpdateCopyMap, five_buffers, PlaysFiveBuffers}
-use Rattle.core_model.proofs.Runs.Settling.{app_takes, app_hands, settle_finish, settle_complete, settle_run, settle_accept, settle_submit, settle_cs, settle_app}
+use Rattle.core_model.proofs.Runs.Settling.{app_takes, app_hands, settle_finish, settle_complete, settle_run}
+use Rattle.core_model.proofs.Runs.Settling.{settle_accept, settle_submit, settle_cs, settle_app}
 
 -- a state with the step to it
 abbrev Next : Script → Core → Event → Type 0
@@ -17,13 +18,25 @@ Next script old e = (new : Core) × CoreStep no_shaders script old e new
 -- An update, a copy, a read ------------------------------------------------------------------------------------------
 
 abbrev u1 : Next update_copy_map (start update_copy_map) (App 0)
-u1 = (_, app_takes no_shaders update_copy_map (start update_copy_map) _ _ _ refl refl refl refl (512, _, Own First_choices update_copy_map 1 _ refl, refl))
+u1 = (
+  _,
+  app_takes no_shaders update_copy_map (start update_copy_map) _ _ _ refl refl refl refl
+      (512, _, Own First_choices update_copy_map 1 _ refl, refl),
+)
 
 abbrev u2 : Next update_copy_map u1.0 (App 0)
-u2 = (_, app_takes no_shaders update_copy_map u1.0 _ _ _ refl refl refl refl (513, _, Own First_choices update_copy_map 2 _ refl, refl))
+u2 = (
+  _,
+  app_takes no_shaders update_copy_map u1.0 _ _ _ refl refl refl refl
+      (513, _, Own First_choices update_copy_map 2 _ refl, refl),
+)
 
 abbrev u3 : Next update_copy_map u2.0 (App 0)
-u3 = (_, app_takes no_shaders update_copy_map u2.0 _ _ _ refl refl refl refl (_, _, (New_page, On_new 16 _ refl, (λ h. refl)), refl))
+u3 = (
+  _,
+  app_takes no_shaders update_copy_map u2.0 _ _ _ refl refl refl refl
+      (_, _, (New_page, On_new 16 _ refl, (λ h. refl)), refl),
+)
 
 abbrev u4 : Next update_copy_map u3.0 (App 0)
 u4 = (_, app_takes no_shaders update_copy_map u3.0 _ _ _ refl refl refl refl refl)
@@ -53,7 +66,13 @@ abbrev u12 : Next update_copy_map u11.0 Finish
 u12 = (_, (refl, (_, (_, _, refl, refl, refl), _, _, refl, refl)))
 
 abbrev u13 : Next update_copy_map u12.0 (App 1)
-u13 = (_, (refl, (refl, (λ h. refl), _, (_, _, refl, refl), inl (refl, inr (inl (refl, _, _, refl, inl (refl, refl)))))))
+u13 = (
+  _,
+  (
+    refl,
+    (refl, (λ h. refl), _, (_, _, refl, refl), inl (refl, inr (inl (refl, _, _, refl, inl (refl, refl))))),
+  ),
+)
 
 abbrev u14 : Next update_copy_map u13.0 (App 0)
 u14 = (_, (refl, (refl, (λ h. refl), _, refl, inl (refl, inr (inr (refl, refl, (omega arith), refl))))))
@@ -64,7 +83,8 @@ plays_update_copy_map = (
   (
     start update_copy_map,
     refl,
-    (Settling (start update_copy_map) u1.0 _ (settle_app no_shaders update_copy_map (start update_copy_map) u1.0 refl refl refl refl refl refl u1.1)
+    (Settling (start update_copy_map) u1.0 _ (settle_app no_shaders update_copy_map (start update_copy_map) u1.0
+        refl refl refl refl refl refl u1.1)
         (Settling u1.0 u2.0 _ (settle_app no_shaders update_copy_map u1.0 u2.0 refl refl refl refl refl refl u2.1)
         (Settling u2.0 u3.0 _ (settle_app no_shaders update_copy_map u2.0 u3.0 refl refl refl refl refl refl u3.1)
         (Settling u3.0 u4.0 _ (settle_app no_shaders update_copy_map u3.0 u4.0 refl refl refl refl refl refl u4.1)
@@ -77,7 +97,8 @@ plays_update_copy_map = (
         (Settling u10.0 u11.0 _ (settle_complete no_shaders update_copy_map u10.0 u11.0 refl u11.1)
         (Settling u11.0 u12.0 _ (settle_finish no_shaders update_copy_map u11.0 u12.0 u12.1)
         (Settling u12.0 u13.0 _ (settle_app no_shaders update_copy_map u12.0 u13.0 refl refl refl refl refl refl u13.1)
-        (Settling u13.0 u14.0 _ (settle_app no_shaders update_copy_map u13.0 u14.0 refl refl refl refl refl refl u14.1) (At_end _ refl))))))))))))))),
+        (Settling u13.0 u14.0 _ (settle_app no_shaders update_copy_map u13.0 u14.0 refl refl refl refl refl refl
+        u14.1) (At_end _ refl))))))))))))))),
   ),
   refl,
   refl,
@@ -86,19 +107,39 @@ plays_update_copy_map = (
 -- Five buffers -------------------------------------------------------------------------------------------------------
 
 abbrev f1 : Next five_buffers (start five_buffers) (App 0)
-f1 = (_, app_takes no_shaders five_buffers (start five_buffers) _ _ _ refl refl refl refl (512, _, Own First_choices five_buffers 1 _ refl, refl))
+f1 = (
+  _,
+  app_takes no_shaders five_buffers (start five_buffers) _ _ _ refl refl refl refl
+      (512, _, Own First_choices five_buffers 1 _ refl, refl),
+)
 
 abbrev f2 : Next five_buffers f1.0 (App 0)
-f2 = (_, app_takes no_shaders five_buffers f1.0 _ _ _ refl refl refl refl (513, _, Own First_choices five_buffers 2 _ refl, refl))
+f2 = (
+  _,
+  app_takes no_shaders five_buffers f1.0 _ _ _ refl refl refl refl
+      (513, _, Own First_choices five_buffers 2 _ refl, refl),
+)
 
 abbrev f3 : Next five_buffers f2.0 (App 0)
-f3 = (_, app_takes no_shaders five_buffers f2.0 _ _ _ refl refl refl refl (514, _, Own First_choices five_buffers 3 _ refl, refl))
+f3 = (
+  _,
+  app_takes no_shaders five_buffers f2.0 _ _ _ refl refl refl refl
+      (514, _, Own First_choices five_buffers 3 _ refl, refl),
+)
 
 abbrev f4 : Next five_buffers f3.0 (App 0)
-f4 = (_, app_takes no_shaders five_buffers f3.0 _ _ _ refl refl refl refl (515, _, Own First_choices five_buffers 4 _ refl, refl))
+f4 = (
+  _,
+  app_takes no_shaders five_buffers f3.0 _ _ _ refl refl refl refl
+      (515, _, Own First_choices five_buffers 4 _ refl, refl),
+)
 
 abbrev f5 : Next five_buffers f4.0 (App 0)
-f5 = (_, app_takes no_shaders five_buffers f4.0 _ _ _ refl refl refl refl (516, _, Own First_choices five_buffers 5 _ refl, refl))
+f5 = (
+  _,
+  app_takes no_shaders five_buffers f4.0 _ _ _ refl refl refl refl
+      (516, _, Own First_choices five_buffers 5 _ refl, refl),
+)
 
 abbrev f6 : Next five_buffers f5.0 (App 0)
 f6 = (_, app_takes no_shaders five_buffers f5.0 _ _ _ refl refl refl refl refl)
@@ -155,7 +196,13 @@ abbrev f23 : Next five_buffers f22.0 Finish
 f23 = (_, (refl, (_, (_, _, refl, refl, refl), _, _, refl, refl)))
 
 abbrev f24 : Next five_buffers f23.0 (App 1)
-f24 = (_, (refl, (refl, (λ h. refl), _, (_, _, refl, refl), inl (refl, inr (inl (refl, _, _, refl, inl (refl, refl)))))))
+f24 = (
+  _,
+  (
+    refl,
+    (refl, (λ h. refl), _, (_, _, refl, refl), inl (refl, inr (inl (refl, _, _, refl, inl (refl, refl))))),
+  ),
+)
 
 abbrev f25 : Next five_buffers f24.0 (App 0)
 f25 = (_, (refl, (refl, (λ h. refl), _, refl, inl (refl, inr (inr (refl, refl, (omega arith), refl))))))
@@ -165,11 +212,88 @@ plays_five_buffers = (
   f25.0,
   (
     f21.0,
-    (f1.0, inl f1.1, (f2.0, inl f2.1, (f3.0, inl f3.1, (f4.0, inl f4.1, (f5.0, inl f5.1, (f6.0, inl f6.1, (f7.0, inl f7.1, (f8.0, inl f8.1, (f9.0, inl f9.1, (f10.0, inl f10.1, (f11.0, inl f11.1, (f12.0, inl f12.1, (f13.0, inl f13.1, (f14.0, inl f14.1, (f15.0, inl f15.1, (f16.0, inl f16.1, (f17.0, inl f17.1, (f18.0, inl f18.1, (f19.0, inl f19.1, (f20.0, inl f20.1, (f21.0, inl f21.1, refl))))))))))))))))))))),
+    (
+      f1.0,
+      inl f1.1,
+      (
+        f2.0,
+        inl f2.1,
+        (
+          f3.0,
+          inl f3.1,
+          (
+            f4.0,
+            inl f4.1,
+            (
+              f5.0,
+              inl f5.1,
+              (
+                f6.0,
+                inl f6.1,
+                (
+                  f7.0,
+                  inl f7.1,
+                  (
+                    f8.0,
+                    inl f8.1,
+                    (
+                      f9.0,
+                      inl f9.1,
+                      (
+                        f10.0,
+                        inl f10.1,
+                        (
+                          f11.0,
+                          inl f11.1,
+                          (
+                            f12.0,
+                            inl f12.1,
+                            (
+                              f13.0,
+                              inl f13.1,
+                              (
+                                f14.0,
+                                inl f14.1,
+                                (
+                                  f15.0,
+                                  inl f15.1,
+                                  (
+                                    f16.0,
+                                    inl f16.1,
+                                    (
+                                      f17.0,
+                                      inl f17.1,
+                                      (
+                                        f18.0,
+                                        inl f18.1,
+                                        (
+                                          f19.0,
+                                          inl f19.1,
+                                          (f20.0, inl f20.1, (f21.0, inl f21.1, refl)),
+                                        ),
+                                      ),
+                                    ),
+                                  ),
+                                ),
+                              ),
+                            ),
+                          ),
+                        ),
+                      ),
+                    ),
+                  ),
+                ),
+              ),
+            ),
+          ),
+        ),
+      ),
+    ),
     (Settling f21.0 f22.0 _ (settle_complete no_shaders five_buffers f21.0 f22.0 refl f22.1)
         (Settling f22.0 f23.0 _ (settle_finish no_shaders five_buffers f22.0 f23.0 f23.1)
         (Settling f23.0 f24.0 _ (settle_app no_shaders five_buffers f23.0 f24.0 refl refl refl refl refl refl f24.1)
-        (Settling f24.0 f25.0 _ (settle_app no_shaders five_buffers f24.0 f25.0 refl refl refl refl refl refl f25.1) (At_end _ refl))))),
+        (Settling f24.0 f25.0 _ (settle_app no_shaders five_buffers f24.0 f25.0 refl refl refl refl refl refl f25.1)
+        (At_end _ refl))))),
   ),
   refl,
   refl,

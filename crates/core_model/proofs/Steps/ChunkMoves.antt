@@ -9,13 +9,17 @@ use Rattle.vk_types.specs.Entries.{Entry, EntriesCovered, EntriesKeep, run_entri
 use Rattle.base_lemmas.proofs.Lists.{all_map}
 use Rattle.core_model.specs.Script.{Script, at_start, in_order}
 use Rattle.core_model.specs.Chunking.{cut}
-use Rattle.core_model.specs.CoreState.{Segment, flat, Running, Message, Owner, Board, Core, of_messages, of_running, rests, segments, later, on_device, listed, taken_count, finished_count, handed_count, open_number}
+use Rattle.core_model.specs.CoreState.{Segment, flat, Running, Message, Owner, Board, Core, of_messages, of_running}
+use Rattle.core_model.specs.CoreState.{rests, segments, later, on_device, listed, taken_count, finished_count}
+use Rattle.core_model.specs.CoreState.{handed_count, open_number}
 use Rattle.core_model.specs.Readings.{Reading}
 use Rattle.core_model.specs.OtherParts.{used_in}
 use Rattle.core_model.specs.Stands.{Stands}
 use Rattle.core_model.specs.Worlds.{empty, run_world}
 use Rattle.core_model.specs.Listed.{IsListed}
-use Rattle.core_model.specs.Invariant.{Allows, IsSince, IsLive, Known, KnownIn, Numbered, IsShaped, BindsUses, IsFilled, SnapsRight, turns_of, commands_of, IsSized, NamesStaging, WritesElsewhere, Totals, Good, listed_acts}
+use Rattle.core_model.specs.Invariant.{Allows, IsSince, IsLive, Known, KnownIn, Numbered, IsShaped, BindsUses}
+use Rattle.core_model.specs.Invariant.{IsFilled, SnapsRight, turns_of, commands_of, IsSized, NamesStaging}
+use Rattle.core_model.specs.Invariant.{WritesElsewhere, Totals, Good, listed_acts}
 use Rattle.core_model.proofs.Steps.Segments.{segments_later, handed_length}
 
 -- what is known stays known as counts grow
@@ -32,84 +36,95 @@ known_more t f h t' f' h' w e rs own own' lf lh keep x k = record {
 }
 
 module _ (meaning : Meaning) (reading : Reading) (script : Script) (old : Core)
-    (posts completions : List Message) (accepted : List Running) (submissions batches chunks : List Segment) (requested modules : List ℕ)
+    (posts completions : List Message) (accepted : List Running) (submissions batches chunks : List Segment)
+    (requested modules : List ℕ)
     (memory : ℕ → ℕ → ℕ) (counts : ℕ → ℕ) (ran : List Entry) (owner : ℕ → Owner) (board : Board)
-    (e : of_messages posts ++ (of_messages completions ++ (of_running accepted ++ (submissions ++ (batches ++ chunks)))) ≡ later old) where
-  abbrev pub moved : Core
-  moved = record old {
-    posts = posts;
-    completions = completions;
-    accepted = accepted;
-    submissions = submissions;
-    batches = batches;
-    chunks = chunks;
-    requested = requested;
-    modules = modules;
-    memory = memory;
-    counts = counts;
-    ran = ran;
-    owner = owner;
-    board = board;
-  }
+    (e : of_messages posts
+    ++ (of_messages completions ++ (of_running accepted ++ (submissions ++ (batches ++ chunks)))) ≡ later old)
+  where
+    abbrev pub moved : Core
+    moved = record old {
+      posts = posts;
+      completions = completions;
+      accepted = accepted;
+      submissions = submissions;
+      batches = batches;
+      chunks = chunks;
+      requested = requested;
+      modules = modules;
+      memory = memory;
+      counts = counts;
+      ran = ran;
+      owner = owner;
+      board = board;
+    }
 
-  -- what such a step owes
-  pub record Owes : Type 0 where
-    pub sizes : IsSized reading moved
-    pub finished : finished_count old ≤ finished_count moved
-    pub since : (b : ℕ) → IsSince (finished_count moved) (owner b)
-    pub allows : (block i chunk : ℕ) → Allows (taken_count old) (finished_count old) (old.owner block) i chunk → Allows (taken_count old) (finished_count moved) (owner block) i chunk
-    pub live : (r b : ℕ) → IsLive r (old.owner b) → IsLive r (owner b)
-    pub within : AllByRecursion (λ r. Sublist r.rest r.segment.commands) accepted
-    pub device : run_world meaning (rests accepted) (record { memory = memory; counts = counts }) ≡ run_world meaning (flat (on_device moved)) empty
-    pub whole : IsReordering (commands_of (on_device moved)) (ran ++ rests accepted)
-    pub order : EntriesKeep (ran ++ rests accepted)
-    pub snaps : SnapsRight meaning (flat old.taken) (posts ++ completions) (of_running accepted)
+    -- what such a step owes
+    pub record Owes : Type 0 where
+      pub sizes : IsSized reading moved
+      pub finished : finished_count old ≤ finished_count moved
+      pub since : (b : ℕ) → IsSince (finished_count moved) (owner b)
+      pub allows : (block i chunk : ℕ) → Allows (taken_count old) (finished_count old) (old.owner block) i chunk
+          → Allows (taken_count old) (finished_count moved) (owner block) i chunk
+      pub live : (r b : ℕ) → IsLive r (old.owner b) → IsLive r (owner b)
+      pub within : AllByRecursion (λ r. Sublist r.rest r.segment.commands) accepted
+      pub device : run_world meaning (rests accepted) (record { memory = memory; counts = counts })
+          ≡ run_world meaning (flat (on_device moved)) empty
+      pub whole : IsReordering (commands_of (on_device moved)) (ran ++ rests accepted)
+      pub order : EntriesKeep (ran ++ rests accepted)
+      pub snaps : SnapsRight meaning (flat old.taken) (posts ++ completions) (of_running accepted)
 
-  same_segments : segments moved ≡ segments old
-  same_segments = segments_later moved ∙ ap (λ l. old.taken ++ (l ++ old.open_chunk ∷ [])) e ∙ sym (segments_later old)
+    same_segments : segments moved ≡ segments old
+    same_segments = segments_later moved ∙ ap (λ l. old.taken ++ (l ++ old.open_chunk ∷ [])) e
+        ∙ sym (segments_later old)
 
-  same_count : handed_count moved ≡ handed_count old
-  same_count = handed_length moved ∙ ap (λ l. length old.taken + length l) e ∙ sym (handed_length old)
+    same_count : handed_count moved ≡ handed_count old
+    same_count = handed_length moved ∙ ap (λ l. length old.taken + length l) e ∙ sym (handed_length old)
 
-  pub moved_good : Good meaning reading script old → Owes → Good meaning reading script moved
-  moved_good g o = let s = g.sound in record {
-    sound = record {
-      position = s.position;
-      cut = s.cut ∙ ap (λ l. turns_of (old.taken ++ l) ++ cut script old.open_chunk.turns old.future) (sym e);
-      sizes = o.sizes;
-      bounded = λ many. let b = s.bounded many in let n = same_count in omega (arith, b, n);
-      grows =
-          subst (λ n. IsListed old.is_staging old.listing old.open_chunk.ops old.contents old.recent old.open_chunk.commands n (listed_acts moved)) (ap suc (sym same_count))
-          (subst (IsListed old.is_staging old.listing old.open_chunk.ops old.contents old.recent old.open_chunk.commands (open_number old))
-          (ap (λ l. flat (old.taken ++ l) ++ (old.open_chunk.reads ++ old.open_chunk.writes)) (sym e)) s.grows);
-      counted = s.counted;
-      fence = let f = s.fence in let l = o.finished in omega (arith, f, l);
-      covered = subst (λ l. EntriesCovered (flat l)) (sym same_segments) s.covered;
-      known =
-          let n = same_count in
-          subst (λ l. AllByRecursion (KnownIn moved) (flat l)) (sym same_segments)
-          (all_map (KnownIn old) (KnownIn moved)
-          (known_more (taken_count old) (finished_count old) (handed_count old) (taken_count old) (finished_count moved) (handed_count moved) old.host_acts old.epoch old.recent old.owner owner
-          o.finished (omega (arith, n)) o.allows)
-          (listed old) s.known);
-      since = o.since;
-      numbered = subst (Numbered 0) (sym same_segments) s.numbered;
-      shaped = subst (AllByRecursion IsShaped) (sym same_segments) s.shaped;
-      binds = subst (AllByRecursion BindsUses) (sym same_segments) s.binds;
-      filled = subst (λ l. AllByRecursion IsFilled (flat l)) (sym same_segments) s.filled;
-      within = o.within;
-      device = o.device;
-      whole = o.whole;
-      order = o.order;
-      snaps = o.snaps;
-      copies = λ r b st is n i l.
-          s.copies r b st is (subst (λ l. used_in (l ++ old.open_chunk ∷ []) b ≡ false) e n) i l
-          ∙ ap (λ l. run_entries meaning (flat l) zeros b i) (sym same_segments);
-      names = subst (AllByRecursion (NamesStaging script old.blocks)) (sym same_segments) s.names;
-      elsewhere = subst WritesElsewhere (sym same_segments) s.elsewhere;
-    };
-    stands = subst (λ l. Stands script (run_entries meaning (flat l) zeros) old.blocks (in_order meaning script old.past at_start)) (sym same_segments) g.stands;
-    live = λ r b is. o.live r b (g.live r b is);
-    totals = subst (λ l. Totals (run_world meaning (flat l) empty).counts old.commands (in_order meaning script old.past at_start)) (sym same_segments) g.totals;
-    replies = g.replies;
-  }
+    pub moved_good : Good meaning reading script old → Owes → Good meaning reading script moved
+    moved_good g o = let s = g.sound in record {
+      sound = record {
+        position = s.position;
+        cut = s.cut ∙ ap (λ l. turns_of (old.taken ++ l) ++ cut script old.open_chunk.turns old.future) (sym e);
+        sizes = o.sizes;
+        bounded = λ many. let b = s.bounded many in let n = same_count in omega (arith, b, n);
+        grows =
+            subst (λ n. IsListed old.is_staging old.listing old.open_chunk.ops old.contents old.recent
+            old.open_chunk.commands n (listed_acts moved)) (ap suc (sym same_count))
+            (subst (IsListed old.is_staging old.listing old.open_chunk.ops old.contents old.recent
+            old.open_chunk.commands (open_number old))
+            (ap (λ l. flat (old.taken ++ l) ++ (old.open_chunk.reads ++ old.open_chunk.writes)) (sym e)) s.grows);
+        counted = s.counted;
+        fence = let f = s.fence in let l = o.finished in omega (arith, f, l);
+        covered = subst (λ l. EntriesCovered (flat l)) (sym same_segments) s.covered;
+        known =
+            let n = same_count in
+            subst (λ l. AllByRecursion (KnownIn moved) (flat l)) (sym same_segments)
+            (all_map (KnownIn old) (KnownIn moved)
+            (known_more (taken_count old) (finished_count old) (handed_count old) (taken_count old)
+            (finished_count moved) (handed_count moved) old.host_acts old.epoch old.recent old.owner owner
+            o.finished (omega (arith, n)) o.allows)
+            (listed old) s.known);
+        since = o.since;
+        numbered = subst (Numbered 0) (sym same_segments) s.numbered;
+        shaped = subst (AllByRecursion IsShaped) (sym same_segments) s.shaped;
+        binds = subst (AllByRecursion BindsUses) (sym same_segments) s.binds;
+        filled = subst (λ l. AllByRecursion IsFilled (flat l)) (sym same_segments) s.filled;
+        within = o.within;
+        device = o.device;
+        whole = o.whole;
+        order = o.order;
+        snaps = o.snaps;
+        copies = λ r b st is n i l.
+            s.copies r b st is (subst (λ l. used_in (l ++ old.open_chunk ∷ []) b ≡ false) e n) i l
+            ∙ ap (λ l. run_entries meaning (flat l) zeros b i) (sym same_segments);
+        names = subst (AllByRecursion (NamesStaging script old.blocks)) (sym same_segments) s.names;
+        elsewhere = subst WritesElsewhere (sym same_segments) s.elsewhere;
+      };
+      stands = subst (λ l. Stands script (run_entries meaning (flat l) zeros) old.blocks
+          (in_order meaning script old.past at_start)) (sym same_segments) g.stands;
+      live = λ r b is. o.live r b (g.live r b is);
+      totals = subst (λ l. Totals (run_world meaning (flat l) empty).counts old.commands
+          (in_order meaning script old.past at_start)) (sym same_segments) g.totals;
+      replies = g.replies;
+    }

@@ -1,5 +1,7 @@
--- A buffer takes a block: one that was not made yet, or one at home. No command of a chunk that is not finished touches it.
-use Rattle.std.proofs.Common.{◌≡◌, ℕ, suc, ◌+◌, ◌-◌, ◌*◌, ◌<◌, ◌≤◌, Bool, true, false, cond, max, ◌==◌, List, [], ◌∷◌, ◌++◌, length, refl, sym, ap, ◌∙◌, subst, inl, inr, Some, None, slice_get, arith}
+-- A buffer takes a block: one that was not made yet, or one at home. No command of a chunk that is not finished
+-- touches it.
+use Rattle.std.proofs.Common.{◌≡◌, ℕ, suc, ◌+◌, ◌-◌, ◌*◌, ◌<◌, ◌≤◌, Bool, true, false, cond, max, ◌==◌, List, [], ◌∷◌}
+use Rattle.std.proofs.Common.{◌++◌, length, refl, sym, ap, ◌∙◌, subst, inl, inr, Some, None, slice_get, arith}
 use Rattle.std.specs.List.{AllByRecursion}
 use Rattle.std.proofs.lemmas.Bool.{both_ways, cases_Bool, eqb-true, eq-eqb}
 use Rattle.dx_types.specs.declared.range.Range.{Range}
@@ -11,7 +13,8 @@ use Rattle.vk_types.specs.Entries.{Entry, run_entries}
 use Rattle.base_lemmas.proofs.Lists.{all_front, all_back, all_map}
 use Rattle.vk_types.proofs.Local.{covered}
 use Rattle.core_model.specs.Script.{Turn, Script, InOrder, updated, at_start, in_order}
-use Rattle.core_model.specs.CoreState.{Segment, Owner, Unmade, Home, Returning, Spare, Live, Retired, Paged, Dropped, Board, Pool, Core, later, taken_count, finished_count, open_number}
+use Rattle.core_model.specs.CoreState.{Segment, Owner, Unmade, Home, Returning, Spare, Live, Retired, Paged, Dropped}
+use Rattle.core_model.specs.CoreState.{Board, Pool, Core, later, taken_count, finished_count, open_number}
 use Rattle.core_model.specs.Readings.{Reading}
 use Rattle.core_model.specs.Owners.{nothing_bound}
 use Rattle.core_model.specs.Placing.{BlockChoice, Takes, From_home, New_made}
@@ -26,125 +29,24 @@ use Rattle.core_model.specs.Kept.{IsOfBuffer, PlacesRight, Names, Kept}
 use Rattle.core_model.proofs.Listing.Worlds.{world_memory}
 use Rattle.core_model.proofs.Listing.CoreListing.{fence_listed, fence_counted}
 use Rattle.core_model.proofs.Steps.Writing.{with_bytes, written_world, other_bytes, opened_write}
-use Rattle.core_model.proofs.Steps.Opened.{before_open, opened_entries, Opened, opened, opened_turn, opened_owner, opened_fenced}
+use Rattle.core_model.proofs.Steps.Opened.{before_open, opened_entries, Opened, opened, opened_turn, opened_owner}
+use Rattle.core_model.proofs.Steps.Opened.{opened_fenced}
 use Rattle.core_model.proofs.Steps.Taking.{left_by, Meets}
 use Rattle.vk_types.specs.declared.op.VkOp.TheVariants as op
+pub use Rattle.core_model.proofs.Steps.VacantBlocks.{IsVacant, vacant_since, vacant_lives, vacant_buffer, stocked}
+pub use Rattle.core_model.proofs.Steps.VacantBlocks.{vacant, own_unmade, has_parts, Fenced, same_fence, more_fence}
+use Rattle.core_model.proofs.Steps.VacantBlocks.{vacant_allows}
 
--- Blocks that may be taken ------------------------------------------------------------------------------------------------------
+-- The block is the buffer's -----------------------------------------------------------------------------------------
 
--- not made, or at home
-abbrev pub IsVacant : Owner → Type 0
-IsVacant Unmade = Unit {0}
-IsVacant (Home k) = Unit {0}
-IsVacant (Returning k) = ⊥
-IsVacant Spare = ⊥
-IsVacant (Live buffer since bound) = ⊥
-IsVacant (Retired k since bound) = ⊥
-IsVacant (Paged k since bound) = ⊥
-IsVacant Dropped = ⊥
-
--- chunks up to the one that retired it may have touched it
-pub vacant_allows : (t f i chunk : ℕ) (o : Owner) → IsVacant o → Allows t f o i chunk → chunk ≤ retired_by o
-vacant_allows t f i chunk Unmade v a = absurd a
-vacant_allows t f i chunk (Home k) v a = a
-vacant_allows t f i chunk (Returning k) v a = absurd v
-vacant_allows t f i chunk Spare v a = absurd v
-vacant_allows t f i chunk (Live buffer since bound) v a = absurd v
-vacant_allows t f i chunk (Retired k since bound) v a = absurd v
-vacant_allows t f i chunk (Paged k since bound) v a = absurd v
-vacant_allows t f i chunk Dropped v a = absurd v
-
--- and that one is finished
-pub vacant_since : (f : ℕ) (o : Owner) → IsVacant o → IsSince f o → retired_by o ≤ f
-vacant_since f Unmade v s = omega arith
-vacant_since f (Home k) v s = s
-vacant_since f (Returning k) v s = absurd v
-vacant_since f Spare v s = absurd v
-vacant_since f (Live buffer since bound) v s = absurd v
-vacant_since f (Retired k since bound) v s = absurd v
-vacant_since f (Paged k since bound) v s = absurd v
-vacant_since f Dropped v s = absurd v
-
-pub vacant_lives : (r : ℕ) (o : Owner) → IsVacant o → IsLive r o → ⊥
-vacant_lives r Unmade v l = l
-vacant_lives r (Home k) v l = l
-vacant_lives r (Returning k) v l = v
-vacant_lives r Spare v l = v
-vacant_lives r (Live buffer since bound) v l = v
-vacant_lives r (Retired k since bound) v l = v
-vacant_lives r (Paged k since bound) v l = v
-vacant_lives r Dropped v l = v
-
-pub vacant_buffer : (o : Owner) → IsVacant o → IsOfBuffer o → ⊥
-vacant_buffer Unmade v l = l
-vacant_buffer (Home k) v l = l
-vacant_buffer (Returning k) v l = v
-vacant_buffer Spare v l = v
-vacant_buffer (Live buffer since bound) v l = v
-vacant_buffer (Retired k since bound) v l = v
-vacant_buffer (Paged k since bound) v l = v
-vacant_buffer Dropped v l = v
-
--- what is at home and what is not made yet, as the owners have it
-pub record Stocked (board : Board) (pool : Pool) (owner : ℕ → Owner) : Type 0 where
-  pub home : (class place b : ℕ) → slice_get (board.places class) place ≡ Some (Some b) → (n : ℕ) × (owner b ≡ Home n)
-  pub unmade : (class k : ℕ) → class < 8 → board.made class ≤ k → k < 64 → owner (class * 64 + k) ≡ Unmade
-  pub fresh : owner pool.next ≡ Unmade
-
-pub stocked : (core : Core) → PlacesRight core.board core.pool core.owner core.fence → Stocked core.board core.pool core.owner
-stocked core p = record {
-  home = λ class place b h. let x = p.home class place b h in (x.2, x.3);
-  unmade = p.unmade;
-  fresh = p.fresh core.pool.next (omega arith);
-}
-
-taken_vacant : (choice : BlockChoice) (class block : ℕ) (board after : Board) (pool : Pool) (owner : ℕ → Owner) → Takes choice class block board after → Stocked board pool owner → class < 8
-    → IsVacant (owner block)
-taken_vacant choice class block board after pool owner (From_home _ _ place _ e) s l = subst IsVacant (sym (s.home class place block e).1) tt
-taken_vacant choice class block board after pool owner (New_made _ _ less) s l = subst IsVacant (sym (s.unmade class (board.made class) l (omega arith) less)) tt
-
-pub vacant : (reading : Reading) (script : Script) (buffer block : ℕ) (core mid : Core) → HasBlock reading script buffer block core mid → ((r : ℕ) → ClassFits script r (script.class r))
-    → Stocked core.board core.pool core.owner → IsVacant (core.owner block)
-vacant reading script buffer block core mid (Own _ _ _ _ is) classes s = subst IsVacant (sym s.fresh) tt
-vacant reading script buffer block core mid (Of_class _ _ _ class _ _ board is t) classes s =
-    taken_vacant t.0 class block core.board board core.pool core.owner t.1 s (let z : ClassFits script buffer (Some class) = subst (ClassFits script buffer) is (classes buffer) in z).0
-
-pub own_unmade : (reading : Reading) (script : Script) (buffer block : ℕ) (core mid : Core) → HasBlock reading script buffer block core mid → script.class buffer ≡ None
-    → Stocked core.board core.pool core.owner → core.owner block ≡ Unmade
-own_unmade reading script buffer block core mid (Own _ _ _ _ is) none s = s.fresh
-own_unmade reading script buffer block core mid (Of_class _ _ _ class _ _ board is t) none s = absurd (let z : Some class ≡ None = sym is ∙ none in cc z)
-
-pub has_parts : (reading : Reading) (script : Script) (buffer block : ℕ) (core mid : Core) → HasBlock reading script buffer block core mid
-    → (board : Board) × (pool : Pool) × (mid ≡ record core { board = board; pool = pool })
-has_parts reading script buffer block core mid (Own _ _ _ _ is) = (core.board, record core.pool { next = suc core.pool.next }, refl)
-has_parts reading script buffer block core mid (Of_class _ _ _ class _ _ board is t) = (board, core.pool, refl)
-
--- a listing with a fence before the host write, where it needs one
-pub record Fenced (core : Core) (listing : List VkOp) (fence : ℕ) : Type 0 where
-  pub listed : IsListed core.is_staging listing core.open_chunk.ops core.contents core.recent core.open_chunk.commands (open_number core) (listed_acts core)
-  pub counted : IsCounted listing core.open_chunk.ops fence core.host_acts core.epoch
-  pub below : fence ≤ finished_count core
-  pub from : core.fence ≤ fence
-
-pub same_fence : (meaning : Meaning) (reading : Reading) (script : Script) (core : Core) → Good meaning reading script core → Fenced core core.listing core.fence
-same_fence meaning reading script core g = record { listed = g.sound.grows; counted = g.sound.counted; below = g.sound.fence; from = omega arith }
-
-pub more_fence : (meaning : Meaning) (reading : Reading) (script : Script) (core : Core) → Good meaning reading script core → (k : ℕ) → k ≤ finished_count core
-    → Fenced core (core.listing ++ op.Fence k ∷ []) (max core.fence k)
-more_fence meaning reading script core g k l = record {
-  listed = fence_listed core.is_staging core.listing core.open_chunk.ops core.contents core.recent core.open_chunk.commands (open_number core) (listed_acts core) g.sound.grows k (omega (arith, l));
-  counted = fence_counted k core.listing core.open_chunk.ops core.fence core.host_acts core.epoch g.sound.counted;
-  below = let b = g.sound.fence in omega (arith, b, l);
-  from = omega arith;
-}
-
--- The block is the buffer's ------------------------------------------------------------------------------------------------------
-
-module _ (meaning : Meaning) (reading : Reading) (script : Script) (old : Core) (k : Kept meaning reading script old) (t : Turn) (turns : List Turn) (placed : List Placed) (buffer block : ℕ)
+module _ (meaning : Meaning) (reading : Reading) (script : Script) (old : Core)
+    (k : Kept meaning reading script old) (t : Turn) (turns : List Turn) (placed : List Placed) (buffer block : ℕ)
     (board : Board) (pool : Pool) (own : ℕ → Owner) (listing : List VkOp) (fence : ℕ)
-    (keep : (b i chunk : ℕ) → chunk ≤ open_number old → Allows (taken_count old) (finished_count old) (old.owner b) i chunk → Allows (taken_count old) (finished_count old) (own b) i chunk)
+    (keep : (b i chunk : ℕ) → chunk ≤ open_number old → Allows (taken_count old) (finished_count old) (old.owner b)
+    i chunk → Allows (taken_count old) (finished_count old) (own b) i chunk)
     (since : (b : ℕ) → IsSince (finished_count old) (own b)) (fenced : Fenced old listing fence)
-    (empty_block : IsVacant (old.owner block)) (same_owner : own block ≡ old.owner block) (finished : retired_by (old.owner block) ≤ fence) where
+    (empty_block : IsVacant (old.owner block)) (same_owner : own block ≡ old.owner block)
+    (finished : retired_by (old.owner block) ≤ fence) where
   abbrev g : Good meaning reading script old
   g = k.good
 
@@ -160,16 +62,20 @@ module _ (meaning : Meaning) (reading : Reading) (script : Script) (old : Core) 
     open_chunk = record old.open_chunk { turns = old.open_chunk.turns ++ t ∷ []; placed = placed };
   }
 
-  taken_over : (b i chunk : ℕ) → Allows (taken_count old) (finished_count old) (own b) i chunk → Allows (taken_count old) (finished_count old) (given.owner b) i chunk
+  taken_over : (b i chunk : ℕ) → Allows (taken_count old) (finished_count old) (own b) i chunk
+      → Allows (taken_count old) (finished_count old) (given.owner b) i chunk
   taken_over b i chunk a =
       elim (cases_Bool (b == block)) [
         | inl e ↦
             let same = eqb-true b block e in
             let here : Allows (taken_count old) (finished_count old) (old.owner block) i chunk =
-            subst (λ o. Allows (taken_count old) (finished_count old) o i chunk) same_owner (subst (λ b. Allows (taken_count old) (finished_count old) (own b) i chunk) same a) in
+            subst (λ o. Allows (taken_count old) (finished_count old) o i chunk) same_owner
+            (subst (λ b. Allows (taken_count old) (finished_count old) (own b) i chunk) same a) in
             let l = vacant_allows (taken_count old) (finished_count old) i chunk (old.owner block) empty_block here in
-            subst (λ c. Allows (taken_count old) (finished_count old) (cond c (Live buffer fence nothing_bound) (own b)) i chunk) (sym e) (inl (omega (arith, l, finished)))
-        | inr n ↦ subst (λ c. Allows (taken_count old) (finished_count old) (cond c (Live buffer fence nothing_bound) (own b)) i chunk) (sym n) a
+            subst (λ c. Allows (taken_count old) (finished_count old)
+            (cond c (Live buffer fence nothing_bound) (own b)) i chunk) (sym e) (inl (omega (arith, l, finished)))
+        | inr n ↦ subst (λ c. Allows (taken_count old) (finished_count old)
+            (cond c (Live buffer fence nothing_bound) (own b)) i chunk) (sym n) a
       ]
 
   given_since : (b : ℕ) → IsSince (finished_count old) (given.owner b)
@@ -182,7 +88,8 @@ module _ (meaning : Meaning) (reading : Reading) (script : Script) (old : Core) 
   pub given_opened : Opened meaning script given
   given_opened =
       let o = opened meaning reading script old g.sound in
-      let taken = opened_turn meaning script old o (old.past ++ t ∷ []) turns (old.open_chunk.turns ++ t ∷ []) placed old.open_chunk.queries in
+      let taken = opened_turn meaning script old o (old.past ++ t ∷ []) turns (old.open_chunk.turns ++ t ∷ [])
+      placed old.open_chunk.queries in
       let owned = opened_owner meaning script _ taken own board pool keep since in
       let listed = opened_fenced meaning script _ owned listing fence fenced.listed fenced.counted fenced.below in
       opened_owner meaning script _ listed given.owner board pool (λ b i chunk l a. taken_over b i chunk a) given_since
@@ -190,7 +97,7 @@ module _ (meaning : Meaning) (reading : Reading) (script : Script) (old : Core) 
   here_owner : given.owner block ≡ Live buffer fence nothing_bound
   here_owner = ap (λ c. cond c (Live buffer fence nothing_bound) (own block)) (eq-eqb block block refl)
 
-  -- What the block begins with ---------------------------------------------------------------------------------------------------
+  -- What the block begins with --------------------------------------------------------------------------------------
 
   -- the state once bytes are written to it, if there are any: it holds them, and other blocks what they held
   pub record Fills (L : ℕ) (bytes : List ℕ) (core : Core) : Type 0 where
@@ -214,9 +121,11 @@ module _ (meaning : Meaning) (reading : Reading) (script : Script) (old : Core) 
     long_enough : length bytes ≡ target.to - target.from
     long_enough = omega (arith, long)
 
-    old_at : (i chunk : ℕ) → Allows (taken_count old) (finished_count old) (given.owner target.block) i chunk → target.from ≤ i → i < target.to → chunk ≤ fence
+    old_at : (i chunk : ℕ) → Allows (taken_count old) (finished_count old) (given.owner target.block) i chunk
+        → target.from ≤ i → i < target.to → chunk ≤ fence
     old_at i chunk a l u =
-        elim (let z : Allows (taken_count old) (finished_count old) (Live buffer fence nothing_bound) i chunk = subst (λ o. Allows (taken_count old) (finished_count old) o i chunk) here_owner a in z) [
+        elim (let z : Allows (taken_count old) (finished_count old) (Live buffer fence nothing_bound) i chunk =
+        subst (λ o. Allows (taken_count old) (finished_count old) o i chunk) here_owner a in z) [
           | inl h ↦ h
           | inr n ↦ absurd (cc n)
         ]
@@ -225,11 +134,13 @@ module _ (meaning : Meaning) (reading : Reading) (script : Script) (old : Core) 
     fills_bytes = record {
       opened =
           opened_write meaning script given given_opened call target bytes long_enough some old_at
-          (λ q b st is same. vacant_lives q (old.owner block) empty_block (subst (λ b. IsLive q (old.owner b)) (sym same) (g.live q b is)))
+          (λ q b st is same. vacant_lives q (old.owner block) empty_block
+          (subst (λ b. IsLive q (old.owner b)) (sym same) (g.live q b is)))
           (all_map (λ s. Names old.is_staging old.owner s.staging s.bound) (λ s. has_block block s.staging ≡ false)
           (λ s named.
           elim (cases_Bool (has_block block s.staging)) [
-            | inl t ↦ absurd (vacant_buffer (old.owner block) empty_block (k.beside.blocks.held block (named.0 block t)).0)
+            | inl t ↦ absurd (vacant_buffer (old.owner block) empty_block
+                (k.beside.blocks.held block (named.0 block t)).0)
             | inr f ↦ f
           ])
           (before_open old) k.beside.named);
@@ -238,15 +149,19 @@ module _ (meaning : Meaning) (reading : Reading) (script : Script) (old : Core) 
           ∙ other_bytes meaning script given given_opened call target bytes long_enough some old_at b i n
           ∙ ap (λ f. f b i) (sym (world_memory meaning (opened_entries old) empty));
       here = λ i l.
-          ap (λ w. w.memory block i) (written_world meaning script given given_opened call target bytes long_enough some old_at empty)
-          ∙ ap (λ c. cond c (number_at bytes (i - 0)) ((left_by meaning old).memory block i)) (covered target block i refl (omega arith) l)
+          ap (λ w. w.memory block i) (written_world meaning script given given_opened call target bytes long_enough
+          some old_at empty)
+          ∙ ap (λ c. cond c (number_at bytes (i - 0)) ((left_by meaning old).memory block i))
+          (covered target block i refl (omega arith) l)
           ∙ ap (number_at bytes) (omega arith);
-      counts = ap (λ w. w.counts) (written_world meaning script given given_opened call target bytes long_enough some old_at empty);
+      counts = ap (λ w. w.counts) (written_world meaning script given given_opened call target bytes long_enough
+          some old_at empty);
     }
 
-  -- The buffer has it --------------------------------------------------------------------------------------------------------------
+  -- The buffer has it -----------------------------------------------------------------------------------------------
 
-  module _ (writes : List Entry) (listing' : List VkOp) (contents : List (List ℕ)) (host_acts L : ℕ) (bytes : List ℕ) where
+  module _ (writes : List Entry) (listing' : List VkOp) (contents : List (List ℕ)) (host_acts L : ℕ)
+      (bytes : List ℕ) where
     abbrev pub filled : Core
     filled = record given {
       listing = listing';
@@ -256,42 +171,54 @@ module _ (meaning : Meaning) (reading : Reading) (script : Script) (old : Core) 
     }
 
     module _ (f : Fills L bytes filled) (copies : ℕ → ℕ → ℕ) (is_staging : ℕ → Bool)
-        (restaged : IsListed is_staging listing' old.open_chunk.ops contents old.recent old.open_chunk.commands (open_number old) (listed_acts filled))
+        (restaged : IsListed is_staging listing' old.open_chunk.ops contents old.recent old.open_chunk.commands
+        (open_number old) (listed_acts filled))
         (same_copies : (b : ℕ) → (block ≡ b → ⊥) → copies b ≡ old.copies b)
-        (copied : script.is_staging buffer ≡ true → (i : ℕ) → i < script.size buffer → copies block i ≡ (left_by meaning filled).memory block i)
-        (unbound : script.is_staging buffer ≡ true → AllByRecursion (λ s. has_block block s.bound ≡ false) (before_open old ++ old.open_chunk ∷ [])) where
+        (copied : script.is_staging buffer ≡ true → (i : ℕ) → i < script.size buffer
+        → copies block i ≡ (left_by meaning filled).memory block i)
+        (unbound : script.is_staging buffer ≡ true → AllByRecursion (λ s. has_block block s.bound ≡ false)
+        (before_open old ++ old.open_chunk ∷ [])) where
       abbrev pub had : Core
       had = record filled { blocks = updated buffer (Some block) old.blocks; copies = copies; is_staging = is_staging }
 
       -- another buffer's block is as it was, and another
-      other_block : (r b : ℕ) → had.blocks r ≡ Some b → (r == buffer) ≡ false → (old.blocks r ≡ Some b) × (block ≡ b → ⊥)
+      other_block : (r b : ℕ) → had.blocks r ≡ Some b → (r == buffer) ≡ false → (old.blocks r ≡ Some b)
+          × (block ≡ b → ⊥)
       other_block r b is n =
-          let e : old.blocks r ≡ Some b = sym (ap (λ c. cond c (Some block) (old.blocks r)) n) ∙ is in
-          (e, (λ same. vacant_lives r (old.owner block) empty_block (subst (λ b. IsLive r (old.owner b)) (sym same) (g.live r b e))))
+          let e : old.blocks r ≡ Some b = sym (ap (λ c. cond c (Some block) (old.blocks r)) n) ∙ is in (
+            e,
+            (λ same. vacant_lives r (old.owner block) empty_block
+                (subst (λ b. IsLive r (old.owner b)) (sym same) (g.live r b e))),
+          )
 
       this_block : (r b : ℕ) → had.blocks r ≡ Some b → (r == buffer) ≡ true → (r ≡ buffer) × (block ≡ b)
       this_block r b is e =
           let there : Some block ≡ Some b = sym (ap (λ c. cond c (Some block) (old.blocks r)) e) ∙ is in
           (eqb-true r buffer e, (cc there))
 
-      names_kept : (s : Segment) → (script.is_staging buffer ≡ true → has_block block s.bound ≡ false) → NamesStaging script old.blocks s → NamesStaging script had.blocks s
+      names_kept : (s : Segment) → (script.is_staging buffer ≡ true → has_block block s.bound ≡ false)
+          → NamesStaging script old.blocks s → NamesStaging script had.blocks s
       names_kept s none names r b st is h =
           elim (cases_Bool (r == buffer)) [
             | inl e ↦
                 let x = this_block r b is e in
-                absurd (both_ways (has_block b s.bound) (ap (λ b. has_block b s.bound) (sym x.1) ∙ none (ap script.is_staging (sym x.0) ∙ st)) h)
+                absurd (both_ways (has_block b s.bound) (ap (λ b. has_block b s.bound) (sym x.1)
+                ∙ none (ap script.is_staging (sym x.0) ∙ st)) h)
             | inr n ↦ names r b st (other_block r b is n).0 h
           ]
 
-      had_copies : (r b : ℕ) → script.is_staging r ≡ true → had.blocks r ≡ Some b → used_in (later old ++ had.open_chunk ∷ []) b ≡ false → (i : ℕ) → i < script.size r
+      had_copies : (r b : ℕ) → script.is_staging r ≡ true → had.blocks r ≡ Some b
+          → used_in (later old ++ had.open_chunk ∷ []) b ≡ false → (i : ℕ) → i < script.size r
           → copies b i ≡ run_entries meaning (opened_entries filled) zeros b i
       had_copies r b st is n i l =
           elim (cases_Bool (r == buffer)) [
             | inl e ↦
                 let x = this_block r b is e in
                 let sized : script.size r ≡ script.size buffer = ap script.size x.0 in
-                ap (λ b. copies b i) (sym x.1) ∙ copied (ap script.is_staging (sym x.0) ∙ st) i (omega (arith, l, sized))
-                ∙ ap (λ b. (left_by meaning filled).memory b i) x.1 ∙ ap (λ f. f b i) (world_memory meaning (opened_entries filled) empty)
+                ap (λ b. copies b i) (sym x.1) ∙ copied (ap script.is_staging (sym x.0)
+                ∙ st) i (omega (arith, l, sized))
+                ∙ ap (λ b. (left_by meaning filled).memory b i) x.1
+                ∙ ap (λ f. f b i) (world_memory meaning (opened_entries filled) empty)
             | inr m ↦
                 let x = other_block r b is m in
                 ap (λ f. f i) (same_copies b x.1) ∙ f.opened.copies r b st x.0 n i l
@@ -312,21 +239,30 @@ module _ (meaning : Meaning) (reading : Reading) (script : Script) (old : Core) 
         filled = o.filled;
         filled_open = o.filled_open;
         copies = had_copies;
-        names = front_names (before_open old) (λ st. all_front (λ s. has_block block s.bound ≡ false) (before_open old) (old.open_chunk ∷ []) (unbound st)) o.names;
-        names_open = names_kept had.open_chunk (λ st. (let z : AllByRecursion (λ s. has_block block s.bound ≡ false) (old.open_chunk ∷ []) = all_back (λ s. has_block block s.bound ≡ false) (before_open old) (old.open_chunk ∷ []) (unbound st) in z).0) o.names_open;
+        names = front_names (before_open old) (λ st. all_front (λ s. has_block block s.bound ≡ false)
+            (before_open old) (old.open_chunk ∷ []) (unbound st)) o.names;
+        names_open = names_kept had.open_chunk
+            (λ st. (let z : AllByRecursion (λ s. has_block block s.bound ≡ false) (old.open_chunk ∷ []) =
+            all_back (λ s. has_block block s.bound ≡ false) (before_open old) (old.open_chunk ∷ []) (unbound st) in
+            z).0) o.names_open;
         elsewhere = o.elsewhere;
       }
         where
-          front_names : (ss : List Segment) → (script.is_staging buffer ≡ true → AllByRecursion (λ s. has_block block s.bound ≡ false) ss) → AllByRecursion (NamesStaging script old.blocks) ss
+          front_names : (ss : List Segment) → (script.is_staging buffer ≡ true
+              → AllByRecursion (λ s. has_block block s.bound ≡ false) ss)
+              → AllByRecursion (NamesStaging script old.blocks) ss
               → AllByRecursion (NamesStaging script had.blocks) ss
           front_names [] u h = tt
           front_names (s ∷ ss) u h = (names_kept s (λ st. (u st).0) h.0, front_names ss (λ st. (u st).1) h.1)
 
       -- what is left then stands for the state after the turn
       module _ (state : InOrder) (m : Meets meaning script old (in_order meaning script old.past at_start))
-          (live_here : state.live buffer ≡ true) (live_other : (r : ℕ) → (r == buffer) ≡ false → state.live r ≡ (in_order meaning script old.past at_start).live r)
-          (bytes_here : (i : ℕ) → i < script.size buffer → (left_by meaning filled).memory block i ≡ state.bytes buffer i)
-          (bytes_other : (r i : ℕ) → (r == buffer) ≡ false → state.bytes r i ≡ (in_order meaning script old.past at_start).bytes r i)
+          (live_here : state.live buffer ≡ true) (live_other : (r : ℕ) → (r == buffer) ≡ false
+          → state.live r ≡ (in_order meaning script old.past at_start).live r)
+          (bytes_here : (i : ℕ) → i < script.size buffer → (left_by meaning filled).memory block i
+          ≡ state.bytes buffer i)
+          (bytes_other : (r i : ℕ) → (r == buffer) ≡ false → state.bytes r i
+          ≡ (in_order meaning script old.past at_start).bytes r i)
           (total : state.total ≡ (in_order meaning script old.past at_start).total)
           (live_own : (r b : ℕ) → old.blocks r ≡ Some b → (r == buffer) ≡ false → IsLive r (own b)) where
         pub had_meets : Meets meaning script had state
@@ -335,7 +271,8 @@ module _ (meaning : Meaning) (reading : Reading) (script : Script) (old : Core) 
             has_block = λ r h.
                 elim (cases_Bool (r == buffer)) [
                   | inl e ↦ (block, ap (λ c. cond c (Some block) (old.blocks r)) e)
-                  | inr n ↦ let b = m.stands.has_block r (sym (live_other r n) ∙ h) in (b.0, ap (λ c. cond c (Some block) (old.blocks r)) n ∙ b.1)
+                  | inr n ↦ let b = m.stands.has_block r (sym (live_other r n) ∙ h) in
+                      (b.0, ap (λ c. cond c (Some block) (old.blocks r)) n ∙ b.1)
                 ];
             is_live = λ r b is.
                 elim (cases_Bool (r == buffer)) [
@@ -358,8 +295,10 @@ module _ (meaning : Meaning) (reading : Reading) (script : Script) (old : Core) 
                   | inl e ↦
                       let x = this_block r b is e in
                       let sized : script.size r ≡ script.size buffer = ap script.size x.0 in
-                      ap (λ b. (left_by meaning filled).memory b i) (sym x.1) ∙ bytes_here i (omega (arith, l, sized)) ∙ ap (λ r. state.bytes r i) (sym x.0)
-                  | inr n ↦ let x = other_block r b is n in f.others b i x.1 ∙ m.stands.bytes r b i x.0 l ∙ sym (bytes_other r i n)
+                      ap (λ b. (left_by meaning filled).memory b i) (sym x.1)
+                      ∙ bytes_here i (omega (arith, l, sized)) ∙ ap (λ r. state.bytes r i) (sym x.0)
+                  | inr n ↦ let x = other_block r b is n in f.others b i x.1 ∙ m.stands.bytes r b i x.0 l
+                      ∙ sym (bytes_other r i n)
                 ];
           };
           live = λ r b is.
@@ -370,7 +309,9 @@ module _ (meaning : Meaning) (reading : Reading) (script : Script) (old : Core) 
                 | inr n ↦
                     let x = other_block r b is n in
                     subst (λ c. IsLive r (cond c (Live buffer fence nothing_bound) (own b)))
-                    (let d : false ≡ (b == block) = elim (cases_Bool (b == block)) [ inl t ↦ absurd (x.1 (sym (eqb-true b block t))) | inr d ↦ sym d ] in d) (live_own r b x.0 n)
+                    (let d : false ≡ (b == block) = elim (cases_Bool (b == block))
+                    [ inl t ↦ absurd (x.1 (sym (eqb-true b block t))) | inr d ↦ sym d ] in d) (live_own r b x.0 n)
               ];
-          totals = let t = m.totals in subst (λ f. Totals f old.commands state) (sym f.counts) (record { total = total ∙ t.total; above = t.above });
+          totals = let t = m.totals in subst (λ f. Totals f old.commands state) (sym f.counts)
+              (record { total = total ∙ t.total; above = t.above });
         }

@@ -1,6 +1,7 @@
--- What is known of the open chunk and of what was listed, with the chunks before it; and that this is all that a step of App
--- owes which adds to them.
-use Rattle.std.proofs.Common.{◌≡◌, ℕ, suc, ◌+◌, ◌≤◌, true, List, [], ◌∷◌, ◌++◌, length, refl, sym, ap, ◌∙◌, subst, Some, arith, append-nil, length-append}
+-- What is known of the open chunk and of what was listed, with the chunks before it; and that this is all that a step
+-- of App owes which adds to them.
+use Rattle.std.proofs.Common.{◌≡◌, ℕ, suc, ◌+◌, ◌≤◌, true, List, [], ◌∷◌, ◌++◌, length, refl, sym, ap, ◌∙◌, subst}
+use Rattle.std.proofs.Common.{Some, arith, append-nil, length-append}
 use Rattle.std.specs.List.{AllByRecursion}
 use Rattle.dx_types.specs.declared.range.Range.{Range}
 use Rattle.vk_types.specs.declared.message.Placed.{Placed}
@@ -11,11 +12,13 @@ use Rattle.vk_types.specs.Entries.{Entry, EntriesCovered}
 use Rattle.base_lemmas.proofs.Lists.{all_front, all_back, all_append, all_map, pairs_front, pairs_append, all_across}
 use Rattle.core_model.specs.Script.{Turn, Script}
 use Rattle.core_model.specs.Chunking.{chunks, cut}
-use Rattle.core_model.specs.CoreState.{Segment, entries, flat, Owner, Core, segments, later, listed, taken_count, finished_count, handed_count, open_number}
+use Rattle.core_model.specs.CoreState.{Segment, entries, flat, Owner, Core, segments, later, listed, taken_count}
+use Rattle.core_model.specs.CoreState.{finished_count, handed_count, open_number}
 use Rattle.core_model.specs.Readings.{Reading}
 use Rattle.core_model.specs.Adding.{has_block}
 use Rattle.core_model.specs.Listed.{IsListed, IsCounted}
-use Rattle.core_model.specs.Invariant.{Allows, IsSince, KnownIn, Numbered, IsShaped, BindsUses, IsFilled, CopiesRight, NamesStaging, WritesElsewhere, listed_acts, turns_of, handed, Sound}
+use Rattle.core_model.specs.Invariant.{Allows, IsSince, KnownIn, Numbered, IsShaped, BindsUses, IsFilled, CopiesRight}
+use Rattle.core_model.specs.Invariant.{NamesStaging, WritesElsewhere, listed_acts, turns_of, handed, Sound}
 use Rattle.core_model.proofs.Listing.Worlds.{flat-append}
 use Rattle.core_model.proofs.Steps.Segments.{handed_length, numbered_append, numbered_front}
 use Rattle.core_model.proofs.Steps.Handing.{Elsewhere}
@@ -37,7 +40,8 @@ listed_open core =
     ∙ ap (λ l. flat (before_open core) ++ l) (append-nil (entries core.open_chunk))
 
 pub record Opened (meaning : Meaning) (script : Script) (core : Core) : Type 0 where
-  pub grows : IsListed core.is_staging core.listing core.open_chunk.ops core.contents core.recent core.open_chunk.commands (open_number core) (listed_acts core)
+  pub grows : IsListed core.is_staging core.listing core.open_chunk.ops core.contents core.recent
+      core.open_chunk.commands (open_number core) (listed_acts core)
   pub counted : IsCounted core.listing core.open_chunk.ops core.fence core.host_acts core.epoch
   pub fence : core.fence ≤ finished_count core
   pub covered : EntriesCovered (opened_entries core)
@@ -49,7 +53,8 @@ pub record Opened (meaning : Meaning) (script : Script) (core : Core) : Type 0 w
   pub binds : BindsUses core.open_chunk
   pub filled : AllByRecursion IsFilled (flat (before_open core))
   pub filled_open : AllByRecursion IsFilled (entries core.open_chunk)
-  pub copies : CopiesRight meaning script (opened_entries core) (later core ++ core.open_chunk ∷ []) core.copies core.blocks
+  pub copies : CopiesRight meaning script (opened_entries core) (later core ++ core.open_chunk ∷ []) core.copies
+      core.blocks
   pub names : AllByRecursion (NamesStaging script core.blocks) (before_open core)
   pub names_open : NamesStaging script core.blocks core.open_chunk
   pub elsewhere : AllByRecursion (λ s. Elsewhere s core.open_chunk) (before_open core)
@@ -62,23 +67,30 @@ last_of : {A : Type 0} (P : A → Type 0) (xs : List A) (x : A) → AllByRecursi
 last_of P xs x h = (let z : AllByRecursion P (x ∷ []) = all_back P xs (x ∷ []) h in z).0
 
 -- of what holds of all
-module _ (meaning : Meaning) (reading : Reading) (script : Script) (core : Core) (s : Sound meaning reading script core) where
+module _ (meaning : Meaning) (reading : Reading) (script : Script) (core : Core)
+    (s : Sound meaning reading script core) where
   last_segment : (P : Segment → Type 0) → AllByRecursion P (segments core) → P core.open_chunk
   last_segment P h = last_of P (before_open core) core.open_chunk (subst (AllByRecursion P) (segments_handed core) h)
 
   front_segments : (P : Segment → Type 0) → AllByRecursion P (segments core) → AllByRecursion P (before_open core)
-  front_segments P h = all_front P (before_open core) (core.open_chunk ∷ []) (subst (AllByRecursion P) (segments_handed core) h)
+  front_segments P h = all_front P (before_open core) (core.open_chunk ∷ [])
+      (subst (AllByRecursion P) (segments_handed core) h)
 
   front_entries : (P : Entry → Type 0) → AllByRecursion P (listed core) → AllByRecursion P (flat (before_open core))
-  front_entries P h = all_front P (flat (before_open core)) (entries core.open_chunk) (subst (AllByRecursion P) (listed_open core) h)
+  front_entries P h = all_front P (flat (before_open core)) (entries core.open_chunk)
+      (subst (AllByRecursion P) (listed_open core) h)
 
   open_entries : (P : Entry → Type 0) → AllByRecursion P (listed core) → AllByRecursion P (entries core.open_chunk)
-  open_entries P h = all_back P (flat (before_open core)) (entries core.open_chunk) (subst (AllByRecursion P) (listed_open core) h)
+  open_entries P h = all_back P (flat (before_open core)) (entries core.open_chunk)
+      (subst (AllByRecursion P) (listed_open core) h)
 
-  number_of : (k : ℕ) (xs : List Segment) (x : Segment) → Numbered k (xs ++ x ∷ []) → AllByRecursion (λ e. e.chunk ≡ suc (k + length xs)) (entries x)
-  number_of k [] x h = all_map (λ e. e.chunk ≡ suc k) (λ e. e.chunk ≡ suc (k + 0)) (λ e q. omega (arith, q)) (entries x) h.0
+  number_of : (k : ℕ) (xs : List Segment) (x : Segment) → Numbered k (xs ++ x ∷ [])
+      → AllByRecursion (λ e. e.chunk ≡ suc (k + length xs)) (entries x)
+  number_of k [] x h = all_map (λ e. e.chunk ≡ suc k) (λ e. e.chunk ≡ suc (k + 0)) (λ e q. omega (arith, q))
+      (entries x) h.0
   number_of k (y ∷ ys) x h =
-      all_map (λ e. e.chunk ≡ suc (suc k + length ys)) (λ e. e.chunk ≡ suc (k + suc (length ys))) (λ e q. omega (arith, q)) (entries x) (number_of (suc k) ys x h.1)
+      all_map (λ e. e.chunk ≡ suc (suc k + length ys)) (λ e. e.chunk ≡ suc (k + suc (length ys)))
+      (λ e q. omega (arith, q)) (entries x) (number_of (suc k) ys x h.1)
 
   pub opened : Opened meaning script core
   opened = record {
@@ -91,18 +103,22 @@ module _ (meaning : Meaning) (reading : Reading) (script : Script) (core : Core)
     since = s.since;
     numbered =
         let n = front_length core in
-        all_map (λ e. e.chunk ≡ suc (0 + length (before_open core))) (λ e. e.chunk ≡ open_number core) (λ e q. omega (arith, q, n)) (entries core.open_chunk)
+        all_map (λ e. e.chunk ≡ suc (0 + length (before_open core))) (λ e. e.chunk ≡ open_number core)
+        (λ e q. omega (arith, q, n)) (entries core.open_chunk)
         (number_of 0 (before_open core) core.open_chunk (subst (Numbered 0) (segments_handed core) s.numbered));
     shaped = last_segment IsShaped s.shaped;
     binds = last_segment BindsUses s.binds;
     filled = front_entries IsFilled s.filled;
     filled_open = open_entries IsFilled s.filled;
-    copies = subst (λ l. CopiesRight meaning script l (later core ++ core.open_chunk ∷ []) core.copies core.blocks) (listed_open core) s.copies;
+    copies = subst (λ l. CopiesRight meaning script l (later core ++ core.open_chunk ∷ []) core.copies core.blocks)
+        (listed_open core) s.copies;
     names = front_segments (NamesStaging script core.blocks) s.names;
     names_open = last_segment (NamesStaging script core.blocks) s.names;
     elsewhere =
-        all_map (λ s. AllByRecursion (Elsewhere s) (core.open_chunk ∷ [])) (λ s. Elsewhere s core.open_chunk) (λ s h. h.0) (before_open core)
-        (all_across Elsewhere (before_open core) (core.open_chunk ∷ []) (subst WritesElsewhere (segments_handed core) s.elsewhere));
+        all_map (λ s. AllByRecursion (Elsewhere s) (core.open_chunk ∷ [])) (λ s. Elsewhere s core.open_chunk)
+        (λ s h. h.0) (before_open core)
+        (all_across Elsewhere (before_open core) (core.open_chunk ∷ [])
+        (subst WritesElsewhere (segments_handed core) s.elsewhere));
   }
 
 -- the new state's parts that App changes, in the old state
@@ -128,7 +144,8 @@ with_parts old new = record old {
 }
 
 module _ (meaning : Meaning) (reading : Reading) (script : Script) (old new : Core)
-    (position : new.past ++ new.future ≡ script.turns) (cuts : chunks script ≡ turns_of (handed old) ++ cut script new.open_chunk.turns new.future) where
+    (position : new.past ++ new.future ≡ script.turns) (cuts : chunks script
+    ≡ turns_of (handed old) ++ cut script new.open_chunk.turns new.future) where
   abbrev now : Core
   now = with_parts old new
 
@@ -136,7 +153,8 @@ module _ (meaning : Meaning) (reading : Reading) (script : Script) (old new : Co
   front = before_open old
 
   all_segments : (P Q : Segment → Type 0) → AllByRecursion Q front → Q new.open_chunk → AllByRecursion Q (segments now)
-  all_segments P Q f o = subst (AllByRecursion Q) (sym (segments_handed now)) (all_append Q front (new.open_chunk ∷ []) f (o, tt))
+  all_segments P Q f o = subst (AllByRecursion Q) (sym (segments_handed now))
+      (all_append Q front (new.open_chunk ∷ []) f (o, tt))
 
   -- a step of App that adds to the open chunk and the listing keeps the rest
   pub closed : Sound meaning reading script old → Opened meaning script now → Sound meaning reading script now
@@ -152,36 +170,50 @@ module _ (meaning : Meaning) (reading : Reading) (script : Script) (old new : Co
         counted = o.counted;
         fence = o.fence;
         covered = subst EntriesCovered (sym (listed_open now)) o.covered;
-        known = subst (AllByRecursion (KnownIn now)) (sym (listed_open now)) (all_append (KnownIn now) (flat front) (entries new.open_chunk) o.known o.known_open);
+        known = subst (AllByRecursion (KnownIn now)) (sym (listed_open now))
+            (all_append (KnownIn now) (flat front) (entries new.open_chunk) o.known o.known_open);
         since = o.since;
         numbered =
             let n = front_length old in
             subst (Numbered 0) (sym (segments_handed now))
             (numbered_append 0 (length front) front (new.open_chunk ∷ []) (omega arith)
-            (numbered_front 0 front (old.open_chunk ∷ []) (subst (Numbered 0) (segments_handed old) s.numbered))
-            (all_map (λ e. e.chunk ≡ open_number old) (λ e. e.chunk ≡ suc (length front)) (λ e q. omega (arith, q, n)) (entries new.open_chunk) o.numbered, tt));
+            (numbered_front 0 front (old.open_chunk ∷ []) (subst (Numbered 0) (segments_handed old) s.numbered)) (
+              all_map (λ e. e.chunk ≡ open_number old) (λ e. e.chunk ≡ suc (length front))
+                  (λ e q. omega (arith, q, n)) (entries new.open_chunk) o.numbered,
+              tt,
+            ));
         shaped = all_segments IsShaped IsShaped (old_front IsShaped s.shaped) o.shaped;
         binds = all_segments BindsUses BindsUses (old_front BindsUses s.binds) o.binds;
-        filled = subst (AllByRecursion IsFilled) (sym (listed_open now)) (all_append IsFilled (flat front) (entries new.open_chunk) o.filled o.filled_open);
+        filled = subst (AllByRecursion IsFilled) (sym (listed_open now))
+            (all_append IsFilled (flat front) (entries new.open_chunk) o.filled o.filled_open);
         within = s.within;
         device = s.device;
         whole = s.whole;
         order = s.order;
         snaps = s.snaps;
-        copies = subst (λ l. CopiesRight meaning script l (later now ++ new.open_chunk ∷ []) now.copies now.blocks) (sym (listed_open now)) o.copies;
+        copies = subst (λ l. CopiesRight meaning script l (later now ++ new.open_chunk ∷ []) now.copies now.blocks)
+            (sym (listed_open now)) o.copies;
         names = all_segments (NamesStaging script now.blocks) (NamesStaging script now.blocks) o.names o.names_open;
         elsewhere =
             subst WritesElsewhere (sym (segments_handed now))
-            (pairs_append Elsewhere front (new.open_chunk ∷ []) (pairs_front Elsewhere front (old.open_chunk ∷ []) (subst WritesElsewhere (segments_handed old) s.elsewhere)) (tt, tt)
-            (all_map (λ s. Elsewhere s new.open_chunk) (λ s. AllByRecursion (Elsewhere s) (new.open_chunk ∷ [])) (λ s h. (h, tt)) front o.elsewhere));
+            (pairs_append Elsewhere front (new.open_chunk ∷ [])
+            (pairs_front Elsewhere front (old.open_chunk ∷ [])
+            (subst WritesElsewhere (segments_handed old) s.elsewhere)) (tt, tt)
+            (all_map (λ s. Elsewhere s new.open_chunk) (λ s. AllByRecursion (Elsewhere s) (new.open_chunk ∷ []))
+            (λ s h. (h, tt)) front o.elsewhere));
       }
 
--- What changes little -----------------------------------------------------------------------------------------------------------
+-- What changes little -----------------------------------------------------------------------------------------------
 
 module _ (meaning : Meaning) (script : Script) (core : Core) (o : Opened meaning script core) where
   -- turns, places and marks of queries
   pub opened_turn : (past future turns : List Turn) (placed : List Placed) (queries : List QueryMark)
-      → Opened meaning script (record core { past = past; future = future; open_chunk = record core.open_chunk { turns = turns; placed = placed; queries = queries } })
+      → Opened meaning script (record core {
+        past = past;
+        future = future;
+        open_chunk =
+            record core.open_chunk { turns = turns; placed = placed; queries = queries };
+      })
   opened_turn past future turns placed queries = record {
     grows = o.grows;
     counted = o.counted;
@@ -196,7 +228,8 @@ module _ (meaning : Meaning) (script : Script) (core : Core) (o : Opened meaning
     filled = o.filled;
     filled_open = o.filled_open;
     copies = λ r b st is n i l.
-        o.copies r b st is (used_last (later core) core.open_chunk (record core.open_chunk { turns = turns; placed = placed; queries = queries }) b refl ∙ n) i l;
+        o.copies r b st is (used_last (later core) core.open_chunk
+        (record core.open_chunk { turns = turns; placed = placed; queries = queries }) b refl ∙ n) i l;
     names = o.names;
     names_open = o.names_open;
     elsewhere = o.elsewhere;
@@ -204,12 +237,14 @@ module _ (meaning : Meaning) (script : Script) (core : Core) (o : Opened meaning
 
   -- owners that allow all chunks up to the open one still
   pub opened_owner : (own : ℕ → Owner) (board : _) (pool : _)
-      → ((b i chunk : ℕ) → chunk ≤ open_number core → Allows (taken_count core) (finished_count core) (core.owner b) i chunk → Allows (taken_count core) (finished_count core) (own b) i chunk)
+      → ((b i chunk : ℕ) → chunk ≤ open_number core → Allows (taken_count core) (finished_count core) (core.owner b)
+      i chunk → Allows (taken_count core) (finished_count core) (own b) i chunk)
       → ((b : ℕ) → IsSince (finished_count core) (own b))
       → Opened meaning script (record core { owner = own; board = board; pool = pool })
   opened_owner own board pool keep since =
       let new = record core { owner = own; board = board; pool = pool } in
-      let each = known_kept (taken_count core) (finished_count core) (handed_count core) core.host_acts core.epoch core.recent core.owner own keep in
+      let each = known_kept (taken_count core) (finished_count core) (handed_count core) core.host_acts core.epoch
+      core.recent core.owner own keep in
       record {
         grows = o.grows;
         counted = o.counted;
@@ -231,9 +266,18 @@ module _ (meaning : Meaning) (script : Script) (core : Core) (o : Opened meaning
 
   -- ranges that are bound, and the staging blocks that are named with them; and pages
   pub opened_bound : (more staging : List Range) (pages : _)
-      → ((r b : ℕ) → script.is_staging r ≡ true → core.blocks r ≡ Some b → has_block b (core.open_chunk.bound ++ more) ≡ true → has_block b staging ≡ true)
+      → ((r b : ℕ) → script.is_staging r ≡ true → core.blocks r ≡ Some b
+      → has_block b (core.open_chunk.bound ++ more) ≡ true → has_block b staging ≡ true)
       → ((b : ℕ) → has_block b staging ≡ true → has_block b (core.open_chunk.bound ++ more) ≡ true)
-      → Opened meaning script (record core { open_chunk = record core.open_chunk { bound = core.open_chunk.bound ++ more; staging = staging; pages = pages } })
+      → Opened meaning script
+      (record core {
+        open_chunk = record core.open_chunk {
+          bound = core.open_chunk.bound ++ more;
+          staging =
+              staging;
+          pages = pages;
+        };
+      })
   opened_bound more staging pages names bound =
       let new = record core.open_chunk { bound = core.open_chunk.bound ++ more; staging = staging; pages = pages } in
       record {
@@ -246,10 +290,15 @@ module _ (meaning : Meaning) (script : Script) (core : Core) (o : Opened meaning
         since = o.since;
         numbered = o.numbered;
         shaped = o.shaped;
-        binds = (all_map _ _ (λ x k dev b i t. has_more b core.open_chunk.bound more (k dev b i t)) core.open_chunk.commands o.binds.0, bound);
+        binds = (
+          all_map _ _ (λ x k dev b i t. has_more b core.open_chunk.bound more (k dev b i t))
+              core.open_chunk.commands o.binds.0,
+          bound,
+        );
         filled = o.filled;
         filled_open = o.filled_open;
-        copies = λ r b st is n i l. o.copies r b st is (used_more_last (later core) core.open_chunk new b (has_more b core.open_chunk.bound more) n) i l;
+        copies = λ r b st is n i l. o.copies r b st is (used_more_last (later core) core.open_chunk new b
+            (has_more b core.open_chunk.bound more) n) i l;
         names = o.names;
         names_open = names;
         elsewhere = o.elsewhere;
@@ -257,8 +306,10 @@ module _ (meaning : Meaning) (script : Script) (core : Core) (o : Opened meaning
 
   -- a listing with a fence more
   pub opened_fenced : (listing : List VkOp) (fence : ℕ)
-      → IsListed core.is_staging listing core.open_chunk.ops core.contents core.recent core.open_chunk.commands (open_number core) (listed_acts core)
-      → IsCounted listing core.open_chunk.ops fence core.host_acts core.epoch → fence ≤ finished_count core → Opened meaning script (record core { listing = listing; fence = fence })
+      → IsListed core.is_staging listing core.open_chunk.ops core.contents core.recent core.open_chunk.commands
+      (open_number core) (listed_acts core)
+      → IsCounted listing core.open_chunk.ops fence core.host_acts core.epoch → fence ≤ finished_count core
+      → Opened meaning script (record core { listing = listing; fence = fence })
   opened_fenced listing fence grows counted below = record {
     grows = grows;
     counted = counted;

@@ -1,10 +1,12 @@
 -- Bytes in zeros.
-use Rattle.std.proofs.Common.{◌≡◌, ℕ, zero, suc, ◌+◌, ◌-◌, ◌≤◌, List, [], ◌∷◌, ◌++◌, length, replicate, refl, arith, length-append}
+use Rattle.std.proofs.Common.{◌≡◌, ℕ, zero, suc, ◌+◌, ◌-◌, ◌≤◌, List, [], ◌∷◌, ◌++◌, length, replicate, refl, arith}
+use Rattle.std.proofs.Common.{length-append}
 use Rattle.std.proofs.lemmas.List.{length-replicate}
 use Rattle.vk_types.specs.Memory.{number_at}
 use Rattle.core_model.specs.Script.{padded}
 
-pub padded_long : (from : ℕ) (bytes : List ℕ) (total : ℕ) → from + length bytes ≤ total → length (padded from bytes total) ≡ total
+pub padded_long : (from : ℕ) (bytes : List ℕ) (total : ℕ) → from + length bytes ≤ total
+    → length (padded from bytes total) ≡ total
 padded_long from bytes total l =
     let a = length-append (replicate from 0) (bytes ++ replicate (total - (from + length bytes)) 0) in
     let b = length-append bytes (replicate (total - (from + length bytes)) 0) in
@@ -12,7 +14,7 @@ padded_long from bytes total l =
     let d = length-replicate {A = ℕ} (total - (from + length bytes)) 0 in
     omega (arith, a, b, c, d, l)
 
-zeros_at : (n i : ℕ) → number_at (replicate n 0) i ≡ 0
+pub zeros_at : (n i : ℕ) → number_at (replicate n 0) i ≡ 0
 zeros_at zero i = refl
 zeros_at (suc n) zero = refl
 zeros_at (suc n) (suc i) = zeros_at n i

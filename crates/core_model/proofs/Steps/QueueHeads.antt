@@ -1,5 +1,6 @@
 -- Cs, a worker of the pipeline cache and Submit keep the invariant: they move heads of queues alone.
-use Rattle.std.proofs.Common.{◌≡◌, ℕ, suc, ◌<◌, ◌≤◌, true, false, List, [], ◌∷◌, ◌++◌, length, refl, sym, ap, ◌∙◌, subst, arith, append_assoc, length-append}
+use Rattle.std.proofs.Common.{◌≡◌, ℕ, suc, ◌<◌, ◌≤◌, true, false, List, [], ◌∷◌, ◌++◌, length, refl, sym, ap, ◌∙◌}
+use Rattle.std.proofs.Common.{subst, arith, append_assoc, length-append}
 use Rattle.std.proofs.lemmas.Bool.{ltb-true}
 use Rattle.vk_types.specs.Effects.{Meaning}
 use Rattle.core_model.specs.Script.{Script}
@@ -18,14 +19,23 @@ place_of In_threads n four h = absurd (cc four)
 pub one_more : {A : Type 0} (xs : List A) (s : A) → length (xs ++ s ∷ []) ≡ suc (length xs)
 one_more xs s = omega (arith, length-append xs (s ∷ []))
 
-module _ (meaning : Meaning) (reading : Reading) (script : Script) (old : Core) (submissions batches chunks : List Segment) (requested modules : List ℕ)
+module _ (meaning : Meaning) (reading : Reading) (script : Script) (old : Core)
+    (submissions batches chunks : List Segment) (requested modules : List ℕ)
     (e : submissions ++ (batches ++ chunks) ≡ old.submissions ++ (old.batches ++ old.chunks))
     (sized : has_place reading 4 ≡ false → (length submissions ≤ 4) × (length batches ≤ 4) × (length chunks ≤ 4)) where
   headed_good : Good meaning reading script old
-      → Good meaning reading script (record old { submissions = submissions; batches = batches; chunks = chunks; requested = requested; modules = modules })
+      → Good meaning reading script (record old {
+        submissions = submissions;
+        batches = batches;
+        chunks =
+            chunks;
+        requested = requested;
+        modules = modules;
+      })
   headed_good g =
       let s = g.sound in
-      moved_good meaning reading script old old.posts old.completions old.accepted submissions batches chunks requested modules old.memory old.counts old.ran old.owner old.board
+      moved_good meaning reading script old old.posts old.completions old.accepted submissions batches chunks
+      requested modules old.memory old.counts old.ran old.owner old.board
       (ap (λ l. of_messages old.posts ++ (of_messages old.completions ++ (of_running old.accepted ++ l))) e) g (record {
         sizes = λ four. let z = s.sizes four in let y = sized four in (z.0, z.1, z.2, y.0, y.1, y.2);
         finished = omega arith;
@@ -44,7 +54,8 @@ pub cs_good : (meaning : Meaning) (reading : Reading) (script : Script) (old new
 cs_good meaning reading script old new p g =
     let s = p.0 in let ss = p.1 in let e = p.2 in
     subst (Good meaning reading script) (sym p.4)
-    (headed_good meaning reading script old old.submissions (old.batches ++ s ∷ []) ss (old.requested ++ created s.turns) old.modules
+    (headed_good meaning reading script old old.submissions (old.batches ++ s ∷ []) ss
+    (old.requested ++ created s.turns) old.modules
     (ap (λ l. old.submissions ++ l) (append_assoc old.batches (s ∷ []) ss ∙ ap (λ l. old.batches ++ l) (sym e)))
     (λ four.
     let z = g.sound.sizes four in
@@ -59,7 +70,8 @@ pub pipe_good : (meaning : Meaning) (reading : Reading) (script : Script) (old :
     → Step meaning reading script old (Pipe j) new → Good meaning reading script old → Good meaning reading script new
 pipe_good meaning reading script old j new p g =
     subst (Good meaning reading script) (sym p.2)
-    (headed_good meaning reading script old old.submissions old.batches old.chunks old.requested (old.modules ++ p.0 ∷ []) refl
+    (headed_good meaning reading script old old.submissions old.batches old.chunks old.requested
+    (old.modules ++ p.0 ∷ []) refl
     (λ four. let z = g.sound.sizes four in (z.3, z.4, z.5)) g)
 
 pub submit_good : (meaning : Meaning) (reading : Reading) (script : Script) (old new : Core)

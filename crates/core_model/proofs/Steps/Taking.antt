@@ -24,16 +24,21 @@ pub record Meets (meaning : Meaning) (script : Script) (core : Core) (state : In
   pub totals : Totals (left_by meaning core).counts core.commands state
 
 module _ (meaning : Meaning) (reading : Reading) (script : Script) where
-  pub met : (core : Core) → Good meaning reading script core → Meets meaning script core (in_order meaning script core.past at_start)
+  pub met : (core : Core) → Good meaning reading script core
+      → Meets meaning script core (in_order meaning script core.past at_start)
   met core g = record {
     stands = subst (λ m. Stands script m core.blocks (in_order meaning script core.past at_start))
-        (sym (world_memory meaning (listed core) empty) ∙ ap (λ l. (run_world meaning l empty).memory) (listed_open core)) g.stands;
+        (sym (world_memory meaning (listed core) empty) ∙ ap (λ l. (run_world meaning l empty).memory)
+        (listed_open core)) g.stands;
     live = g.live;
-    totals = subst (λ l. Totals (run_world meaning l empty).counts core.commands (in_order meaning script core.past at_start)) (listed_open core) g.totals;
+    totals = subst (λ l. Totals (run_world meaning l empty).counts core.commands
+        (in_order meaning script core.past at_start)) (listed_open core) g.totals;
   }
 
-  module _ (old new : Core) (t : Turn) (turns : List Turn) (e : old.future ≡ t ∷ turns) (due : is_due script old.open_chunk.turns old.future ≡ false)
-      (past : new.past ≡ old.past ++ t ∷ []) (future : new.future ≡ turns) (taken : new.open_chunk.turns ≡ old.open_chunk.turns ++ t ∷ []) (said : new.replies ≡ old.replies) where
+  module _ (old new : Core) (t : Turn) (turns : List Turn) (e : old.future ≡ t ∷ turns)
+      (due : is_due script old.open_chunk.turns old.future ≡ false)
+      (past : new.past ≡ old.past ++ t ∷ []) (future : new.future ≡ turns)
+      (taken : new.open_chunk.turns ≡ old.open_chunk.turns ++ t ∷ []) (said : new.replies ≡ old.replies) where
     -- the place of the turn in the script
     pub at_turn : Good meaning reading script old → script.turns ≡ old.past ++ t ∷ turns
     at_turn g = sym (ap (λ l. old.past ++ l) (sym e) ∙ g.sound.position)
@@ -41,25 +46,34 @@ module _ (meaning : Meaning) (reading : Reading) (script : Script) where
     abbrev now : Core
     now = with_parts old new
 
-    pub taken_good : Good meaning reading script old → Opened meaning script now → Meets meaning script now (turn_in_order meaning script t (in_order meaning script old.past at_start)) → Good meaning reading script now
+    pub taken_good : Good meaning reading script old → Opened meaning script now
+        → Meets meaning script now (turn_in_order meaning script t (in_order meaning script old.past at_start))
+        → Good meaning reading script now
     taken_good g o m =
         let before = in_order meaning script old.past at_start in
-        let after : in_order meaning script new.past at_start ≡ turn_in_order meaning script t before = ap (λ l. in_order meaning script l at_start) past ∙ in_order-append meaning script old.past (t ∷ []) at_start in
+        let after : in_order meaning script new.past at_start ≡ turn_in_order meaning script t before =
+        ap (λ l. in_order meaning script l at_start) past
+        ∙ in_order-append meaning script old.past (t ∷ []) at_start in
         record {
           sound = closed meaning reading script old new
-              (ap (λ l. l ++ new.future) past ∙ ap (λ l. (old.past ++ t ∷ []) ++ l) future ∙ append_assoc old.past (t ∷ []) turns ∙ sym (at_turn g))
+              (ap (λ l. l ++ new.future) past ∙ ap (λ l. (old.past ++ t ∷ []) ++ l) future
+              ∙ append_assoc old.past (t ∷ []) turns ∙ sym (at_turn g))
               (g.sound.cut
               ∙ ap (λ l. turns_of (handed old) ++ l)
-              (ap (cut script old.open_chunk.turns) e ∙ cut_on script old.open_chunk.turns t turns (subst (λ l. is_due script old.open_chunk.turns l ≡ false) e due)
-              ∙ ap (cut script (old.open_chunk.turns ++ t ∷ [])) (sym future) ∙ ap (λ l. cut script l new.future) (sym taken)))
+              (ap (cut script old.open_chunk.turns) e ∙ cut_on script old.open_chunk.turns t turns
+              (subst (λ l. is_due script old.open_chunk.turns l ≡ false) e due)
+              ∙ ap (cut script (old.open_chunk.turns ++ t ∷ [])) (sym future)
+              ∙ ap (λ l. cut script l new.future) (sym taken)))
               g.sound o;
           stands =
               subst (λ m. Stands script m now.blocks (in_order meaning script new.past at_start))
-              (ap (λ l. (run_world meaning l empty).memory) (sym (listed_open now)) ∙ world_memory meaning (listed now) empty)
+              (ap (λ l. (run_world meaning l empty).memory) (sym (listed_open now))
+              ∙ world_memory meaning (listed now) empty)
               (subst (Stands script (left_by meaning now).memory now.blocks) (sym after) m.stands);
           live = m.live;
           totals =
-              subst (λ l. Totals (run_world meaning l empty).counts now.commands (in_order meaning script new.past at_start)) (sym (listed_open now))
+              subst (λ l. Totals (run_world meaning l empty).counts now.commands
+              (in_order meaning script new.past at_start)) (sym (listed_open now))
               (subst (Totals (left_by meaning now).counts now.commands) (sym after) m.totals);
           replies = subst (AllByRecursion (IsRight meaning script)) (sym said) g.replies;
         }

@@ -8,14 +8,19 @@ use Rattle.core_model.proofs.block_laws.marked_blocks_come_home.Goals as goal
 
 pub returns : goal.returns
 returns c = record {
-  marked = λ meaning reading script lawful events core h.
-      (reached_by_kinds meaning reading script Sorts (sorts_kinds meaning reading script lawful) lawful events core h).marked;
-  homes = λ meaning reading script lawful events old h new p m ms e b.
-      homes meaning reading script old m ms e new p (reached_kept meaning reading script lawful events old h)
-      (reached_by_kinds meaning reading script Sorts (sorts_kinds meaning reading script lawful) lawful events old h)
-      (reached_by_kinds meaning reading script Held (held_kinds meaning reading script lawful) lawful events old h) b;
-  copies = λ meaning reading script lawful events core h earlier m others e b st n.
-      copy_unbound meaning reading script core (reached_kept meaning reading script lawful events core h) earlier m others e b st n;
-  needed = λ meaning reading script lawful events core h earlier m others e b st n.
-      copy_there meaning reading script core (reached_kept meaning reading script lawful events core h) earlier m others e b st n;
+  marked = λ meaning reading script core h.
+      (reached_by_kinds meaning reading script Sorts (sorts_kinds meaning reading script h.lawful) h.lawful h.events
+      core h.chain).marked;
+  homes = λ meaning reading script old h new p m ms e b.
+      homes meaning reading script old m ms e new p (reached_kept meaning reading script h.lawful h.events old h.chain)
+      (reached_by_kinds meaning reading script Sorts (sorts_kinds meaning reading script h.lawful) h.lawful h.events
+      old h.chain)
+      (reached_by_kinds meaning reading script Held (held_kinds meaning reading script h.lawful) h.lawful h.events
+      old h.chain) b;
+  copies = λ meaning reading script core h earlier m others e b st n.
+      copy_unbound meaning reading script core (reached_kept meaning reading script h.lawful h.events core h.chain)
+      earlier m others e b st n;
+  needed = λ meaning reading script core h earlier m others e b st n.
+      copy_there meaning reading script core (reached_kept meaning reading script h.lawful h.events core h.chain)
+      earlier m others e b st n;
 }

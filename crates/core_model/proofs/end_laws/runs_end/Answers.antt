@@ -12,8 +12,10 @@ pub returns : goal.returns
 returns c = record {
   nearer = nearer;
   bounded = λ meaning script events core h. bounded meaning script events (start script) core h;
-  decided = λ meaning script lawful events core h. decide meaning script lawful core (ready_here meaning script lawful events core h);
-  enabled = λ meaning script lawful events core h. some_goes meaning script lawful core (ready_here meaning script lawful events core h);
+  decided = λ meaning script core h. decide meaning script h.lawful core
+      (ready_here meaning script h.lawful h.events core h.chain);
+  enabled = λ meaning script core h. some_goes meaning script h.lawful core
+      (ready_here meaning script h.lawful h.events core h.chain);
   exists = run_exists;
   once = step_once;
   one = run_once;

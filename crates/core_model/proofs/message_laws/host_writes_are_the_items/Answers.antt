@@ -7,8 +7,10 @@ use Rattle.core_model.proofs.message_laws.host_writes_are_the_items.Goals as goa
 
 pub returns : goal.returns
 returns c = record {
-  so_far = λ meaning reading script lawful events core h. reached_by_kinds meaning reading script (BytesInTurn script) (bytes_kinds meaning reading script) lawful events core h;
-  ended = λ meaning reading script lawful events core h e.
-      reached_by_kinds meaning reading script (BytesInTurn script) (bytes_kinds meaning reading script) lawful events core h
-      ∙ ap (bytes_of script) (ends_whole meaning reading script lawful events core h e).past;
+  so_far = λ meaning reading script core h. reached_by_kinds meaning reading script (BytesInTurn script)
+      (bytes_kinds meaning reading script) h.lawful h.events core h.chain;
+  ended = λ meaning reading script core h e.
+      reached_by_kinds meaning reading script (BytesInTurn script) (bytes_kinds meaning reading script) h.lawful
+      h.events core h.chain
+      ∙ ap (bytes_of script) (ends_whole meaning reading script h.lawful h.events core h.chain e).past;
 }

@@ -6,14 +6,20 @@ use Rattle.core_model.proofs.run_laws.host_reads_are_answers.Goals as goal
 
 pub returns : goal.returns
 returns c = record {
-  replies = λ meaning reading script lawful events core h.
-      replies_are_reads meaning reading script lawful core (reached_kept meaning reading script lawful events core h) (reached_answered meaning reading script lawful events core h);
-  reads = λ meaning reading script lawful events core h.
-      reads_are_replies meaning reading script lawful core (reached_kept meaning reading script lawful events core h) (reached_answered meaning reading script lawful events core h);
+  replies = λ meaning reading script core h.
+      replies_are_reads meaning reading script h.lawful core
+      (reached_kept meaning reading script h.lawful h.events core h.chain)
+      (reached_answered meaning reading script h.lawful h.events core h.chain);
+  reads = λ meaning reading script core h.
+      reads_are_replies meaning reading script h.lawful core
+      (reached_kept meaning reading script h.lawful h.events core h.chain)
+      (reached_answered meaning reading script h.lawful h.events core h.chain);
   run_replies = λ meaning script lawful schedule core r.
       let f = run_free meaning script schedule core r in
-      replies_are_reads meaning Any_choices script lawful core (run_kept meaning script lawful schedule core r) (reached_answered meaning Any_choices script lawful f.0 core f.1);
+      replies_are_reads meaning Any_choices script lawful core (run_kept meaning script lawful schedule core r)
+      (reached_answered meaning Any_choices script lawful f.0 core f.1);
   run_reads = λ meaning script lawful schedule core r.
       let f = run_free meaning script schedule core r in
-      reads_are_replies meaning Any_choices script lawful core (run_kept meaning script lawful schedule core r) (reached_answered meaning Any_choices script lawful f.0 core f.1);
+      reads_are_replies meaning Any_choices script lawful core (run_kept meaning script lawful schedule core r)
+      (reached_answered meaning Any_choices script lawful f.0 core f.1);
 }

@@ -12,9 +12,11 @@ returns c = record {
   idle = free_is_idle;
   listing = listing_is_run;
   covered = listing_is_covered;
-  alike = λ meaning reading script core g. same_order core.is_staging core.contents (core.listing ++ core.open_chunk.ops) (listing_is_run meaning reading script core g);
+  alike = λ meaning reading script core g. same_order core.is_staging core.contents
+      (core.listing ++ core.open_chunk.ops) (listing_is_run meaning reading script core g);
   entries = entries_are_listed;
-  orders = λ meaning reading script core g. law_of_covered meaning core.contents (core.listing ++ core.open_chunk.ops) (listing_is_covered meaning reading script core g);
+  orders = λ meaning reading script core g. law_of_covered meaning core.contents
+      (core.listing ++ core.open_chunk.ops) (listing_is_covered meaning reading script core g);
   each_once = λ meaning reading script core g. g.sound.whole;
   order = λ meaning reading script core g. g.sound.order;
   memory = memory_is_listed;

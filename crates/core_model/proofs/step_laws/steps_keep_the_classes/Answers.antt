@@ -1,4 +1,5 @@
-use Rattle.core_model.proofs.Blocks.ClassSteps.{start_classes, posts_classes, hand_over_classes, end_classes, others_classes}
+use Rattle.core_model.proofs.Blocks.ClassSteps.{start_classes, posts_classes, hand_over_classes, end_classes}
+use Rattle.core_model.proofs.Blocks.ClassSteps.{others_classes}
 use Rattle.core_model.proofs.Blocks.ClassItems.{turn_classes}
 use Rattle.core_model.proofs.step_laws.steps_keep_the_classes.Goals as goal
 

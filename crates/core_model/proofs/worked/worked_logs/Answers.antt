@@ -2,7 +2,8 @@ use Rattle.core_model.proofs.Runs.WorkedRuns.{plays_update_copy_map, plays_five_
 use Rattle.core_model.proofs.Runs.WorkedQueryRun.{plays_one_query}
 use Rattle.core_model.proofs.Runs.WorkedLogIsLawful.{update_copy_map_lawful}
 use Rattle.core_model.proofs.Runs.WorkedQueryIsLawful.{one_query_lawful}
-use Rattle.core_model.proofs.Runs.GapsAreNotLawful.{cut_list_is_not, no_shader_is_not, odd_use_is_not, odd_copy_is_not, odd_slots_is_not}
+use Rattle.core_model.proofs.Runs.GapsAreNotLawful.{cut_list_is_not, no_shader_is_not, odd_use_is_not}
+use Rattle.core_model.proofs.Runs.GapsAreNotLawful.{odd_copy_is_not, odd_slots_is_not}
 use Rattle.core_model.proofs.worked.worked_logs.Goals as goal
 
 pub returns : goal.returns
