@@ -4,7 +4,7 @@ use crate::tasks::{ALL_TOUCHES, ALL_WRITES, ONE_GROUP, Op, Part, Task, listing, 
 use std::alloc::{AllocError, Global};
 use std::process::Abort;
 use std::test::Fail;
-use vk_order::{OrderEnd, Uncovered, allowed, covered};
+use vk_order::{OrderEnd, Uncovered, allowed, covered, covered_by_index};
 use vk_types::{Access, Barrier, Mask, SlotName, VkOp};
 
 fn is_covered(ops: &[VkOp]) -> Result<Result<(), Uncovered>, Fail> {
@@ -12,6 +12,14 @@ fn is_covered(ops: &[VkOp]) -> Result<Result<(), Uncovered>, Fail> {
         return Err("too many operations".into());
     }
     Ok(covered(ops))
+}
+
+fn is_covered_by_index(alloc: Global, ops: &[VkOp]) -> Result<Result<(), Uncovered>, Fail> {
+    if ops.len() > 1_000_000 {
+        return Err("too many operations".into());
+    }
+    let end = covered_by_index(alloc, ops)?;
+    Ok(end)
 }
 
 fn is_allowed(ops: &[VkOp], order: &[u32]) -> Result<Result<(), OrderEnd>, Fail> {
@@ -204,6 +212,7 @@ fn ends(rt: &impl Abort, alloc: Global, rows: &[Listing]) -> Result<(), Fail> {
         let ops = listing(alloc, row.ops)?;
         assert_eq!(rt; ops.len(), row.len, "{}", row.shows);
         assert_eq!(rt; is_covered(&ops)?, row.end, "{}", row.shows);
+        assert_eq!(rt; is_covered_by_index(alloc, &ops)?, row.end, "{}", row.shows);
     }
     Ok(())
 }

@@ -10,8 +10,8 @@ use crate::audit_end::AuditEnd;
 use crate::reading::{read_front, read_last};
 use crate::sharing::shared_bytes;
 use dx_types::Range;
-use std::alloc::Global;
-use vk_order::{OrderEnd, Uncovered, allowed, covered};
+use std::alloc::{AllocError, Global};
+use vk_order::{OrderEnd, Uncovered, allowed, covered_by_index};
 use vk_types::VkOp;
 
 /// What an audit says: the first pair that is not covered, if there is one, with the bytes that its first conflicting touches
@@ -34,11 +34,12 @@ fn verdict(ops: &[VkOp], order: &Option<Vec<u32>>) -> Option<Result<(), OrderEnd
 }
 
 // The first hazard that is not covered, if there is one.
-fn hazard(ops: &[VkOp]) -> Option<Uncovered>
+fn hazard(alloc: Global, ops: &[VkOp]) -> Result<Option<Uncovered>, AllocError>
     requires { length ops.now < 2 ^ 32 }
-    ensures { IsHazardIf ops.now result }
+    ensures { IfOk result (IsHazardIf ops.now) }
 {
-    covered(ops).err()
+    let end = covered_by_index(alloc, ops)?;
+    Ok(end.err())
 }
 
 // The bytes that its first conflicting touches share.
@@ -53,16 +54,16 @@ fn shared(ops: &[VkOp], hazard: &Option<Uncovered>) -> Option<Range>
     }
 }
 
-fn report_on(ops: &[VkOp], order: &Option<Vec<u32>>) -> Report
+fn report_on(alloc: Global, ops: &[VkOp], order: &Option<Vec<u32>>) -> Result<Report, AllocError>
     requires { length ops.now < 2 ^ 32 }
-    ensures { Reports ops.now (option_map (λ v. v.items) order.now) result }
+    ensures { IfOk result (Reports ops.now (option_map (λ v. v.items) order.now)) }
 {
-    let pair = hazard(ops);
-    Report {
+    let pair = hazard(alloc, ops)?;
+    Ok(Report {
         pair,
         shared: shared(ops, &pair),
         order: verdict(ops, order),
-    }
+    })
 }
 
 /// Audits a listing's text, which an order's line may stand behind: whether each hazard is covered, and whether the order is
@@ -77,5 +78,6 @@ pub fn audit(alloc: Global, text: &[u8]) -> Result<Report, AuditEnd>
 {
     let (ops, rest) = read_front(alloc, text)?;
     let order = read_last(alloc, rest, ops.len() as u64 + 1)?;
-    Ok(report_on(&ops, &order))
+    let report = report_on(alloc, &ops, &order)?;
+    Ok(report)
 }

@@ -1,44 +1,13 @@
 //! The bytes that two acts share.
 
-ghost use Rattle.std.specs.Prelude.{◌≡◌, length, slice_get};
+ghost use Rattle.std.specs.Prelude.{◌≡◌};
 ghost use Rattle.vk_types.specs.Listing.{op_touches};
 ghost use Rattle.list_audit.specs.Shared.{overlap, shared_with, shared_bytes};
 ghost use Rattle.list_audit.specs.Shared as wanted;
 
 use dx_types::Range;
-use vk_types::{Access, Stage, Touch, VkOp};
-
-fn host_touch(range: Range, access: Access) -> Touch
-    ensures { result ≡ record { range = range; stage = Stage.Host; access = access } }
-{
-    Touch {
-        range,
-        stage: Stage::Host,
-        access,
-    }
-}
-
-// The i-th of the ranges that an operation touches.
-fn touch_of(op: &VkOp, i: usize) -> Option<Touch>
-    ensures { result ≡ slice_get (op_touches op.now) i }
-{
-    match (op, i) {
-        (VkOp::Command(command), _) => command.touch_at(i),
-        (VkOp::HostWrite { range, .. }, 0) => Some(host_touch(*range, Access::WRITE)),
-        (VkOp::HostRead { range, .. }, 0) => Some(host_touch(*range, Access::READ)),
-        _ => None,
-    }
-}
-
-fn touch_count(op: &VkOp) -> usize
-    ensures { result ≡ length (op_touches op.now) }
-{
-    match op {
-        VkOp::Command(command) => command.touch_count(),
-        VkOp::HostWrite { .. } | VkOp::HostRead { .. } => 1,
-        _ => 0,
-    }
-}
+use vk_order::{touch_count, touch_of};
+use vk_types::{Touch, VkOp};
 
 fn overlap(a: Range, b: Range) -> Range
     ensures { result ≡ overlap a b }

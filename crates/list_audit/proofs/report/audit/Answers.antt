@@ -10,4 +10,4 @@ report_on-requires c = omega (arith, few c.args.text.now c.in_ok-ops.rest.now c.
 pub returns-clause-agree : goal.returns-clause-agree
 returns-clause-agree c = λ none.
     agree c.args.text.now c.in_ok-ops.ops.items _ (text_read c.args.text.now c.in_ok-ops.rest.now c.in_ok-ops.ops.items _ c.in_ok-ops.ensures.front c.in_ok-order.ensures.last)
-    (subst Covered c.deref.ensures.value (covered_if c.deref.result.now c.report_on.result.pair c.report_on.ensures.pair none))
+    (subst Covered c.deref.ensures.value (covered_if c.deref.result.now c.in_ok-report.report.pair c.in_ok-report.ensures.pair none))
