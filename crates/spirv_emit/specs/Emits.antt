@@ -1,17 +1,14 @@
 -- What the emitter in code appends.
-use Rattle.std.specs.Prelude.{ℕ, ◌≡◌, ◌+◌, ◌<◌, ◌^◌, List, [], ◌∷◌, ◌++◌, Bool, true, false, ◌&&◌, nat_lt, replicate, Option, Some, None}
+use Rattle.std.specs.Prelude.{ℕ, ◌≡◌, ◌+◌, ◌<◌, ◌^◌, List, [], ◌∷◌, ◌++◌, Bool, true, false, ◌&&◌, nat_lt, Option, Some, None}
 use Rattle.shader_model.specs.declared.tree.Declared.{Declared}
 use Rattle.shader_model.specs.declared.tree.Test.{Test}
 use Rattle.shader_model.specs.declared.tree.Node.{Node}
 use Rattle.shader_model.specs.Body.{Body, End, Plain, If, Loop, Break, Continue, Return, node_before}
 use Rattle.shader_model.specs.Shader.{Program}
-use Rattle.spirv_model.specs.declared.built_ins.TheConstants as built_ins
 use Rattle.spirv_model.specs.Op.{Op}
 use Rattle.spirv_model.specs.Op as op
 use Rattle.spirv_model.specs.Words.{words_of}
 use Rattle.spirv_model.specs.declared.settings.TheConstants as setting
-use Rattle.spirv_model.specs.declared.decorations.TheConstants as decoration
-use Rattle.spirv_model.specs.declared.storage_classes.TheConstants as class
 use Rattle.spirv_emit.specs.declared.plan.Plan.{Plan}
 use Rattle.spirv_emit.specs.declared.code.Code.{Code}
 use Rattle.spirv_emit.specs.declared.formula.Taken.{Taken}
@@ -31,7 +28,7 @@ use Rattle.spirv_emit.specs.Layout.{Layout}
 use Rattle.spirv_emit.specs.Lower.{turns, leaf_of, instr_pieces, test_pieces, test_calculation}
 use Rattle.spirv_emit.specs.Code.{calculation_size, choice_ops, choice_end, assign_ops, pieces_ops, pieces_end, leave_ops, turns_are_out, one_turn_less, body_ops, body_end}
 use Rattle.spirv_emit.specs.Numbers.{layout, with_numbers, body_numbers}
-use Rattle.spirv_emit.specs.Module.{built_in, variables, first_label, last_label, body_start}
+use Rattle.spirv_emit.specs.Module.{variables, first_label, last_label, body_start}
 
 abbrev pub layout_of : Plan → Layout
 layout_of p = layout p.numbers p.variables
@@ -163,60 +160,6 @@ module _ (ds : List Declared) (at : Layout) where
   -- a node was put into the code, and nothing behind it is ever run
   pub record Stops (old new : Code) (x : Node) (k b c : ℕ) : Type 0 where
     pub appends : (rest : Body) → Appends old new (body_ops ds at (node_before x rest) old.next k b c) (body_end ds (node_before x rest) old.next)
-
--- ## Parts of the preamble
-
-abbrev pub decorations_of_blocks : List Op
-decorations_of_blocks =
-    op.Decorate id.array_type decoration.ARRAY_STRIDE (setting.WORD_BYTES ∷ [])
-    ∷ op.Decorate id.buffer_block decoration.BLOCK []
-    ∷ op.MemberDecorate id.buffer_block 0 decoration.OFFSET (0 ∷ [])
-    ∷ op.Decorate id.lengths_block decoration.BLOCK []
-    ∷ []
-
-abbrev pub decorations_of_inputs : List Op
-decorations_of_inputs = built_in id.group_id built_ins.WORKGROUP_ID ∷ built_in id.thread_id built_ins.LOCAL_INVOCATION_ID ∷ built_in id.global_id built_ins.GLOBAL_INVOCATION_ID ∷ built_in id.thread_index built_ins.LOCAL_INVOCATION_INDEX ∷ []
-
-abbrev pub types_of_words : List Op
-types_of_words =
-    op.TypeVoid id.void_type
-    ∷ op.TypeFunction id.main_type id.void_type
-    ∷ op.TypeInt id.word_type setting.WORD_WIDTH setting.UNSIGNED
-    ∷ op.TypeBool id.truth_type
-    ∷ op.TypeVector id.vector_type id.word_type 3
-    ∷ []
-
-abbrev pub types_of_blocks : List Op
-types_of_blocks =
-    op.TypeStruct id.pair_type (id.word_type ∷ id.word_type ∷ [])
-    ∷ op.TypeRuntimeArray id.array_type id.word_type
-    ∷ op.TypeStruct id.buffer_block (id.array_type ∷ [])
-    ∷ op.TypeStruct id.lengths_block (replicate id.bindings id.word_type)
-    ∷ []
-
-abbrev pub types_of_pointers : List Op
-types_of_pointers =
-    op.TypePointer id.to_input_vector class.INPUT id.vector_type
-    ∷ op.TypePointer id.to_input_word class.INPUT id.word_type
-    ∷ op.TypePointer id.to_variable class.FUNCTION id.word_type
-    ∷ op.TypePointer id.to_lengths class.PUSH_CONSTANT id.lengths_block
-    ∷ []
-
-abbrev pub types_of_buffers : List Op
-types_of_buffers =
-    op.TypePointer id.to_length class.PUSH_CONSTANT id.word_type
-    ∷ op.TypePointer id.to_buffer class.STORAGE_BUFFER id.buffer_block
-    ∷ op.TypePointer id.to_word class.STORAGE_BUFFER id.word_type
-    ∷ []
-
-abbrev pub inputs : List Op
-inputs =
-    op.Variable id.to_input_vector id.group_id class.INPUT []
-    ∷ op.Variable id.to_input_vector id.thread_id class.INPUT []
-    ∷ op.Variable id.to_input_vector id.global_id class.INPUT []
-    ∷ op.Variable id.to_input_word id.thread_index class.INPUT []
-    ∷ op.Variable id.to_lengths id.lengths class.PUSH_CONSTANT []
-    ∷ []
 
 -- the function of a shader, where numbers and variables have these ids
 abbrev pub function_code : Layout → Program → List Op

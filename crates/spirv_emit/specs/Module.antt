@@ -40,45 +40,77 @@ place_of b = op.Decorate (buffer_at b) decoration.DESCRIPTOR_SET (setting.ONLY_S
 abbrev pub built_in : (variable number : ℕ) → Op
 built_in r n = op.Decorate r decoration.BUILT_IN (n ∷ [])
 
-abbrev pub decorations : List Op
-decorations =
+-- of the types of blocks, the offsets within the block of lengths left out
+abbrev pub decorations_of_blocks : List Op
+decorations_of_blocks =
     op.Decorate id.array_type decoration.ARRAY_STRIDE (setting.WORD_BYTES ∷ [])
     ∷ op.Decorate id.buffer_block decoration.BLOCK []
     ∷ op.MemberDecorate id.buffer_block 0 decoration.OFFSET (0 ∷ [])
     ∷ op.Decorate id.lengths_block decoration.BLOCK []
-    ∷ built_in id.group_id built_ins.WORKGROUP_ID
+    ∷ []
+
+abbrev pub decorations_of_inputs : List Op
+decorations_of_inputs =
+    built_in id.group_id built_ins.WORKGROUP_ID
     ∷ built_in id.thread_id built_ins.LOCAL_INVOCATION_ID
     ∷ built_in id.global_id built_ins.GLOBAL_INVOCATION_ID
     ∷ built_in id.thread_index built_ins.LOCAL_INVOCATION_INDEX
-    ∷ (map offset_of (from_on 0 bindings) ++ flat_map place_of (from_on 0 bindings))
+    ∷ []
 
-abbrev pub buffer_variable : ℕ → Op
-buffer_variable r = op.Variable id.to_buffer r class.STORAGE_BUFFER []
+abbrev pub decorations : List Op
+decorations = decorations_of_blocks ++ (decorations_of_inputs ++ (map offset_of (from_on 0 bindings) ++ flat_map place_of (from_on 0 bindings)))
 
-abbrev pub types : List Op
-types =
+abbrev pub types_of_words : List Op
+types_of_words =
     op.TypeVoid id.void_type
     ∷ op.TypeFunction id.main_type id.void_type
     ∷ op.TypeInt id.word_type setting.WORD_WIDTH setting.UNSIGNED
     ∷ op.TypeBool id.truth_type
     ∷ op.TypeVector id.vector_type id.word_type 3
-    ∷ op.TypeStruct id.pair_type (id.word_type ∷ id.word_type ∷ [])
+    ∷ []
+
+abbrev pub types_of_blocks : List Op
+types_of_blocks =
+    op.TypeStruct id.pair_type (id.word_type ∷ id.word_type ∷ [])
     ∷ op.TypeRuntimeArray id.array_type id.word_type
     ∷ op.TypeStruct id.buffer_block (id.array_type ∷ [])
     ∷ op.TypeStruct id.lengths_block (replicate bindings id.word_type)
-    ∷ op.TypePointer id.to_input_vector class.INPUT id.vector_type
+    ∷ []
+
+abbrev pub types_of_pointers : List Op
+types_of_pointers =
+    op.TypePointer id.to_input_vector class.INPUT id.vector_type
     ∷ op.TypePointer id.to_input_word class.INPUT id.word_type
     ∷ op.TypePointer id.to_variable class.FUNCTION id.word_type
     ∷ op.TypePointer id.to_lengths class.PUSH_CONSTANT id.lengths_block
-    ∷ op.TypePointer id.to_length class.PUSH_CONSTANT id.word_type
+    ∷ []
+
+abbrev pub types_of_buffers : List Op
+types_of_buffers =
+    op.TypePointer id.to_length class.PUSH_CONSTANT id.word_type
     ∷ op.TypePointer id.to_buffer class.STORAGE_BUFFER id.buffer_block
     ∷ op.TypePointer id.to_word class.STORAGE_BUFFER id.word_type
-    ∷ op.Variable id.to_input_vector id.group_id class.INPUT []
+    ∷ []
+
+-- the types alone
+abbrev pub type_declarations : List Op
+type_declarations = types_of_words ++ (types_of_blocks ++ (types_of_pointers ++ types_of_buffers))
+
+-- the variables outside of the function: the inputs with the lengths, and the buffers
+abbrev pub inputs : List Op
+inputs =
+    op.Variable id.to_input_vector id.group_id class.INPUT []
     ∷ op.Variable id.to_input_vector id.thread_id class.INPUT []
     ∷ op.Variable id.to_input_vector id.global_id class.INPUT []
     ∷ op.Variable id.to_input_word id.thread_index class.INPUT []
     ∷ op.Variable id.to_lengths id.lengths class.PUSH_CONSTANT []
-    ∷ map buffer_variable buffers
+    ∷ []
+
+abbrev pub buffer_variable : ℕ → Op
+buffer_variable r = op.Variable id.to_buffer r class.STORAGE_BUFFER []
+
+abbrev pub types : List Op
+types = type_declarations ++ (inputs ++ map buffer_variable buffers)
 
 -- all that stands before the module's own numbers
 abbrev pub preamble : (group : List ℕ) → List Op

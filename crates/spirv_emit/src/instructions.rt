@@ -3,6 +3,7 @@
 ghost use Rattle.std.specs.Prelude.{◌≡◌, ◌+◌, ◌<◌, ◌^◌, ◌++◌, ◌∷◌, [], length, OnOk, IfOk};
 ghost use Rattle.spirv_model.specs.Op as op;
 ghost use Rattle.spirv_model.specs.Words.{spelled};
+ghost use Rattle.spirv_model.specs.declared.limits.TheConstants.{MAX_INSTRUCTION_WORDS};
 ghost use Rattle.spirv_emit.specs.Code.{one_type, two_type};
 ghost use Rattle.spirv_emit.specs.Layout.{word_type};
 ghost use Rattle.spirv_emit.specs.Emits.{Puts, Appends};
@@ -17,7 +18,7 @@ use std::alloc::AllocError;
 impl Code {
     /// An instruction's words.
     pub fn put(&mut self, opcode: u16, operands: &[u32]) -> Result<(), AllocError>
-        requires { length operands.now < 65535 }
+        requires { length operands.now < MAX_INSTRUCTION_WORDS }
         ensures words { OnOk result (self.new.words ≡ self.old.words ++ spelled opcode operands.now) }
         ensures next { self.new.next ≡ self.old.next }
     {
@@ -26,7 +27,7 @@ impl Code {
 
     /// An instruction whose result has the next free id, which is the second of its operands.
     fn make(&mut self, opcode: u16, operands: &[u32]) -> Result<u32, AllocError>
-        requires count { length operands.now < 65535 }
+        requires count { length operands.now < MAX_INSTRUCTION_WORDS }
         requires room { self.old.next + 1 < 2 ^ 32 }
         ensures id { IfOk result (λ r. r ≡ self.old.next) }
         ensures words { OnOk result (self.new.words ≡ self.old.words ++ spelled opcode operands.now) }

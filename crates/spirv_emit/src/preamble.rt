@@ -5,8 +5,8 @@ ghost use Rattle.spirv_model.specs.Op as op;
 ghost use Rattle.spirv_model.specs.declared.settings.TheConstants as setting;
 ghost use Rattle.spirv_emit.specs.Numbers.{from_on};
 ghost use Rattle.spirv_emit.specs.Layout as id;
-ghost use Rattle.spirv_emit.specs.Module.{interface, settings, decorations, types, preamble, offset_of, place_of, buffers, buffer_variable};
-ghost use Rattle.spirv_emit.specs.Emits.{Puts, decorations_of_blocks, decorations_of_inputs, types_of_words, types_of_blocks, types_of_pointers, types_of_buffers, inputs};
+ghost use Rattle.spirv_emit.specs.Module.{interface, settings, decorations, decorations_of_blocks, decorations_of_inputs, types, types_of_words, types_of_blocks, types_of_pointers, types_of_buffers, inputs, preamble, offset_of, place_of, buffers, buffer_variable};
+ghost use Rattle.spirv_emit.specs.Emits.{Puts};
 
 use crate::code::Code;
 use crate::ids::{

@@ -1,6 +1,6 @@
 // The variables of the function, by their numbers.
 
-ghost use Rattle.std.specs.Prelude.{◌≡◌, ◌<◌};
+ghost use Rattle.std.specs.Prelude.{◌≡◌, ◌<◌, ◌^◌};
 ghost use Rattle.spirv_emit.specs.Lower as lower;
 
 /// The turns that are left.
@@ -26,7 +26,7 @@ pub fn result(destination: u32, component: u32) -> u32
 
 /// A component of a temporary.
 pub fn temporary(index: u32, component: u32) -> u32
-    requires index { index < 65536 }
+    requires index { index < 2 ^ 16 }
     requires component { component < 4 }
     ensures { result ≡ lower.temporary index component }
 {

@@ -23,7 +23,7 @@ use Rattle.spirv_emit.specs.declared.piece.Vector.{Vector}
 use Rattle.spirv_emit.specs.declared.piece.Vector.TheVariants.{Group, Thread, Global}
 use Rattle.spirv_emit.specs.Numbers.{place, has, with_number, with_numbers, own_numbers, declared_numbers, body_numbers, most_turns, numbers_of, layout_of}
 use Rattle.spirv_emit.specs.Code.{body_ops}
-use Rattle.spirv_emit.specs.Module.{settings, decorations, preamble, buffers, buffer_variable, constants, local, zero_variables, first_label, last_label, body_start}
+use Rattle.spirv_emit.specs.Module.{settings, decorations, type_declarations, inputs, preamble, buffers, buffer_variable, constants, local, zero_variables, first_label, last_label, body_start}
 use Rattle.spirv_emit.specs.Frames.{Frame}
 use Rattle.spirv_emit.proofs.Meaning.ValueTables.{with_same, with_other}
 use Rattle.spirv_emit.proofs.Meaning.LabelPlaces.{after_append, after_other, At, found}
@@ -112,38 +112,11 @@ pool_of p = record {
 
 -- ## The preamble
 
--- the types alone
-abbrev type_ops : List Op
-type_ops =
-    op.TypeVoid id.void_type
-    ∷ op.TypeFunction id.main_type id.void_type
-    ∷ op.TypeInt id.word_type setting.WORD_WIDTH setting.UNSIGNED
-    ∷ op.TypeBool id.truth_type
-    ∷ op.TypeVector id.vector_type id.word_type 3
-    ∷ op.TypeStruct id.pair_type (id.word_type ∷ id.word_type ∷ [])
-    ∷ op.TypeRuntimeArray id.array_type id.word_type
-    ∷ op.TypeStruct id.buffer_block (id.array_type ∷ [])
-    ∷ op.TypeStruct id.lengths_block (replicate bindings id.word_type)
-    ∷ op.TypePointer id.to_input_vector class.INPUT id.vector_type
-    ∷ op.TypePointer id.to_input_word class.INPUT id.word_type
-    ∷ op.TypePointer id.to_variable class.FUNCTION id.word_type
-    ∷ op.TypePointer id.to_lengths class.PUSH_CONSTANT id.lengths_block
-    ∷ op.TypePointer id.to_length class.PUSH_CONSTANT id.word_type
-    ∷ op.TypePointer id.to_buffer class.STORAGE_BUFFER id.buffer_block
-    ∷ op.TypePointer id.to_word class.STORAGE_BUFFER id.word_type
-    ∷ []
-
 abbrev quiet : List ℕ → List Op
-quiet g = settings g ++ (decorations ++ type_ops)
+quiet g = settings g ++ (decorations ++ type_declarations)
 
 abbrev named : List Op → List Op
-named rest =
-    op.Variable id.to_input_vector id.group_id class.INPUT []
-    ∷ op.Variable id.to_input_vector id.thread_id class.INPUT []
-    ∷ op.Variable id.to_input_vector id.global_id class.INPUT []
-    ∷ op.Variable id.to_input_word id.thread_index class.INPUT []
-    ∷ op.Variable id.to_lengths id.lengths class.PUSH_CONSTANT []
-    ∷ (map buffer_variable buffers ++ rest)
+named rest = inputs ++ (map buffer_variable buffers ++ rest)
 
 preamble_is : (g : List ℕ) (rest : List Op) → preamble g ++ rest ≡ quiet g ++ named rest
 preamble_is g rest = refl

@@ -27,7 +27,7 @@ use Rattle.spirv_emit.proofs.Meaning.HeldFrames.{Pool}
 use Rattle.spirv_emit.proofs.Profile.ChoicesPass.{ProperPiece, ProperPieces}
 use Rattle.spirv_emit.proofs.Profile.BlocksPass.{ProperTest, ProperBody}
 use Rattle.spirv_emit.proofs.Size.FewPieces.{instr_few, test_few}
-use Rattle.spirv_emit.proofs.Size.FewIds.{steps_few}
+use Rattle.spirv_emit.proofs.Size.FewSteps.{steps_few}
 
 pub words_both : (a b : List Op) → total_words (a ++ b) ≡ total_words a + total_words b
 words_both [] b = omega arith

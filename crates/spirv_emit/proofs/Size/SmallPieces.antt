@@ -36,64 +36,10 @@ use Rattle.spirv_emit.specs.Opcodes.{first_formula, second_formula, atomic_of}
 use Rattle.spirv_emit.specs.Lower as lower
 use Rattle.spirv_emit.specs.Lower.{nought, calculation, same, three, leaf_of, leaf_of_some, source, relative, fetched, fetch, fetches, all_fetches, result, temporary, only_if, masked, each_masked, computes, computed, plain_pieces, inside_by, place_by, may_reach, reach, missing, load_piece, loads, store_piece, stores, atomic_piece, atomics, spot, binding_of, memory_pieces, slot_pieces, done_pieces, instr_pieces, test_pieces, test_calculation}
 use Rattle.spirv_emit.specs.Code.{leaf_size, calculation_size, action_size, piece_end, pieces_end, inner_start, test_end, body_end}
+use Rattle.spirv_emit.proofs.Size.FewSteps.{steps_few, leaf_ids_few}
 use Rattle.spirv_emit.specs.Emits.{LeafIsSmall, LeavesAreSmall, ActionIsSmall, PiecesAreSmall, TestIsSmall, MaybeIsSmall, BodyIsSmall, Ready}
 
 -- ## Calculations
-
-steps_few : (f : Formula) → nat_lt (length (steps_of f)) 15 ≡ true
-steps_few formula.Same = refl
-steps_few formula.Pick = refl
-steps_few formula.Sum = refl
-steps_few formula.Negative = refl
-steps_few formula.ProductAndSum = refl
-steps_few formula.SignedHigh = refl
-steps_few formula.UnsignedHigh = refl
-steps_few formula.ProductLow = refl
-steps_few formula.Quotient = refl
-steps_few formula.Remainder = refl
-steps_few formula.SignedMin = refl
-steps_few formula.SignedMax = refl
-steps_few formula.UnsignedMin = refl
-steps_few formula.UnsignedMax = refl
-steps_few formula.BitAnd = refl
-steps_few formula.BitOr = refl
-steps_few formula.BitXor = refl
-steps_few formula.Complement = refl
-steps_few formula.ShiftLeft = refl
-steps_few formula.SignedShiftRight = refl
-steps_few formula.ShiftRight = refl
-steps_few formula.Field = refl
-steps_few formula.SignedField = refl
-steps_few formula.Inserted = refl
-steps_few formula.BitReverse = refl
-steps_few formula.BitCount = refl
-steps_few formula.Equal = refl
-steps_few formula.NotEqual = refl
-steps_few formula.SignedGreaterEqual = refl
-steps_few formula.SignedLess = refl
-steps_few formula.GreaterEqual = refl
-steps_few formula.Less = refl
-steps_few formula.IsZero = refl
-steps_few formula.IsNonzero = refl
-steps_few formula.VectorInside = refl
-steps_few formula.VectorPlace = refl
-steps_few formula.RelativeInside = refl
-steps_few formula.RelativePlace = refl
-steps_few formula.RawInside = refl
-steps_few formula.RawPlace = refl
-steps_few formula.StructuredInside = refl
-steps_few formula.StructuredPlace = refl
-steps_few formula.TypedInside = refl
-steps_few formula.TypedPlace = refl
-steps_few formula.TypedOne = refl
-steps_few formula.OneLess = refl
-
-leaf_two : (l : Leaf) → leaf_size l ≤ 2
-leaf_two (Number v) = omega arith
-leaf_two (Variable x) = omega arith
-leaf_two (Length b) = omega arith
-leaf_two (Component v c) = omega arith
-leaf_two Flattened = omega arith
 
 record Short (k : Calculation) : Type 0 where
   small : LeavesAreSmall k.leaves
@@ -101,8 +47,8 @@ record Short (k : Calculation) : Type 0 where
 
 short_calculation : (f : Formula) (a b c d e : Leaf) → LeafIsSmall a → LeafIsSmall b → LeafIsSmall c → LeafIsSmall d → LeafIsSmall e → Short (calculation f a b c d e)
 short_calculation f a b c d e ha hb hc hd he =
-    let la = leaf_two a in let lb = leaf_two b in let lc = leaf_two c in let ld = leaf_two d in let le = leaf_two e in
-    let s = ltb-true (length (steps_of f)) 15 (steps_few f) in
+    let la = leaf_ids_few a in let lb = leaf_ids_few b in let lc = leaf_ids_few c in let ld = leaf_ids_few d in let le = leaf_ids_few e in
+    let s = steps_few f in
     record { small = (ha, (hb, (hc, (hd, (he, tt))))); short = omega (arith, la, lb, lc, ld, le, s) }
 
 short_same : (a : Leaf) → LeafIsSmall a → Short (same a)
@@ -110,9 +56,9 @@ short_same a h = short_calculation formula.Same a nought nought nought nought h 
 
 action_few : (a : Action) → action_size a ≤ 5
 action_few (Fetch x) = omega arith
-action_few (Write v) = let h = leaf_two v in omega arith
-action_few (Change o v x) = let h = leaf_two v in omega arith
-action_few (Swap v c x) = let h = leaf_two v in let k = leaf_two c in omega arith
+action_few (Write v) = let h = leaf_ids_few v in omega arith
+action_few (Change o v x) = let h = leaf_ids_few v in omega arith
+action_few (Swap v c x) = let h = leaf_ids_few v in let k = leaf_ids_few c in omega arith
 
 -- ## Pieces
 
