@@ -1,0 +1,4 @@
+pub mod Modules
+pub mod Cells
+pub mod Created
+pub mod Made

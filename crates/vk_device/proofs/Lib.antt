@@ -1,0 +1,4 @@
+pub mod Alike
+pub mod Taking
+pub mod Giving
+pub mod Ran

@@ -1,0 +1,4 @@
+pub mod State
+pub mod Accepting
+pub mod Running
+pub mod Completing

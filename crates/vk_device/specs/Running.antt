@@ -1,0 +1,44 @@
+-- What a device does as it runs a ready command.
+use Rattle.std.specs.Prelude.{◌≡◌, ℕ, List, [], ◌∷◌, ◌++◌, Option, Some, slice_get}
+use Rattle.vk_types.specs.declared.command.Command as c
+use Rattle.vk_types.specs.Effects.{effect, invocations}
+use Rattle.query_pool.specs.Asked.{counted_more}
+use Rattle.device_memory.specs.Held.{AreAlike, memory_of}
+use Rattle.device_memory.specs.Meant.{meaning_by}
+use Rattle.device_memory.specs.Runs.{CanRun}
+use Rattle.command_queue.specs.Left.{marked}
+use Rattle.command_queue.specs.Readiness.{ready_places, step_command}
+use Rattle.vk_device.specs.State.{State}
+
+-- the ready command number j: where it stands, and the command
+pub record IsReady (d : State) (j : ℕ) : Type 0 where
+  pub place : ℕ
+  pub command : c.Command
+  pub is_place : slice_get (ready_places d.steps) j ≡ Some place
+  pub is_command : step_command (slice_get d.steps place) ≡ Some command
+
+-- it is there, and the device can run it with this module, which is given where it is a dispatch
+pub record CanRunReady (d : State) (j : ℕ) (words : Option (List ℕ)) : Type 0 where
+  pub is : IsReady d j
+  pub can : CanRun d.held is.command words
+
+-- the command was run as the module means it, and all else stays
+pub record Runs (j : ℕ) (words : Option (List ℕ)) (old new : State) : Type 0 where
+  pub is : IsReady old j
+  pub memory : memory_of new.held ≡ effect (meaning_by words) is.command (memory_of old.held)
+  pub alike : AreAlike old.held new.held
+  pub steps : new.steps ≡ marked is.place old.steps
+  pub order : new.order ≡ old.order ++ is.command.number ∷ []
+  pub asked : new.asked
+      ≡ record old.asked { counts = counted_more old.asked.counts is.command.number (invocations (meaning_by words) is.command (memory_of old.held)) }
+  pub batches : new.batches ≡ old.batches
+  pub newest : new.newest ≡ old.newest
+  pub marks : new.marks ≡ old.marks
+
+-- no command was run, accepted or completed
+pub record SameCommands (old new : State) : Type 0 where
+  pub steps : new.steps ≡ old.steps
+  pub order : new.order ≡ old.order
+  pub batches : new.batches ≡ old.batches
+  pub newest : new.newest ≡ old.newest
+  pub marks : new.marks ≡ old.marks
