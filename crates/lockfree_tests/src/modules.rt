@@ -1,4 +1,4 @@
-// One module per shader, for two notes and for two threads.
+// One module per shader, for two notes.
 ghost use Rattle.pipe_cache.specs.Cells.{AreNotesOf};
 
 use call_log::{Log, read_log};
@@ -10,7 +10,6 @@ use std::alloc::{AllocError, Global};
 use std::sync::atomic::AtomicU64;
 use std::sync::atomic::Ordering::SeqCst;
 use std::test::Fail;
-use std::thread::{Threads, join};
 
 /// A log of three calls: `0 shader 1` with groups of 1, 1, 1 and no instruction, `0 shader 2` with groups of 4, 2, 1, and
 /// `0 shader 1` again, which is refused.
@@ -133,37 +132,5 @@ fn a_worker_calls_the_gate_before_and_behind(rt: HostRuntime) -> Result<(), Fail
     assert!(rt; works(&cache, &log, 1, &mut note, &gate)?);
     assert!(rt; works(&cache, &log, 2, &mut note, &gate)?);
     assert_eq!(rt; gate.kept.load(SeqCst), 1324);
-    Ok(())
-}
-
-// Sees to both modules, from the second on, and answers their sizes.
-fn both(
-    alloc: Global,
-    cache: &Cache,
-    log: &Log<'_>,
-) -> Result<(Option<[u32; 3]>, Option<[u32; 3]>), AllocError> {
-    let mut note = cache.note(alloc)?;
-    let second = emitted(cache, log, 2, &mut note)?;
-    let first = emitted(cache, log, 1, &mut note)?;
-    Ok((first, second))
-}
-
-fn race<R: Threads + Sync>(
-    rt: &R,
-    alloc: Global,
-    cache: &Cache,
-    log: &Log<'_>,
-) -> Result<bool, AllocError> {
-    let (one, other) = join(rt, || both(alloc, cache, log), || both(alloc, cache, log));
-    let sizes = (Some([1, 1, 1]), Some([4, 2, 1]));
-    Ok(one? == sizes && other? == sizes)
-}
-
-#[test]
-fn two_threads_see_one_module(rt: HostRuntime) -> Result<(), Fail> {
-    let log = read_log(rt.alloc(), &LOG)?;
-    let plan = make_plan(rt.alloc(), &log)?;
-    let cache = Cache::new(rt.alloc(), &log, &plan)?;
-    assert!(rt; race(&rt, rt.alloc(), &cache, &log)?);
     Ok(())
 }
