@@ -27,4 +27,14 @@ pub mod HeadStates
 pub mod StandingBatches
 pub mod ClearParts
 pub mod DeviceHolds
+pub mod DeviceHas
 pub mod HeadsSucceed
+pub mod UnheldPlaces
+pub mod UnheldBlocks
+pub mod UnheldSteps
+pub mod TakenInSteps
+pub mod MessageItems
+pub mod WorkOnBlocks
+pub mod TakenLengths
+pub mod InsideBlocks
+pub mod HeldLengths

@@ -17,6 +17,7 @@ pub mod Batching
 pub mod BatchOrder
 pub mod Succession
 pub mod Spine
+pub mod Holding
 pub mod BatchActs
 pub mod Formed
 pub mod Lawful

@@ -1,10 +1,16 @@
 -- What messages that stand behind one another use and hold, by their heads alone.
-use Rattle.std.specs.Prelude.{◌≡◌, ℕ, Bool, true, false, not, ◌&&◌, ◌||◌, List, [], ◌∷◌, ◌++◌, take, drop, Some, ◌⊎◌}
+use Rattle.std.specs.Prelude.{◌≡◌, ℕ, suc, ◌≤◌, Bool, true, false, not, ◌&&◌, ◌||◌, List, [], ◌∷◌, ◌++◌, length, map}
+use Rattle.std.specs.Prelude.{take, drop, Some, ◌⊎◌}
 use Rattle.std.specs.List.{list_any}
 use Rattle.vk_types.specs.declared.message.Placed.{Placed}
+use Rattle.dx_types.specs.declared.range.Range.{Range}
+use Rattle.core_model.specs.Script.{Script}
+use Rattle.core_model.specs.Chunking.{chunk_turns}
+use Rattle.core_model.specs.CoreState.{somes}
 use Rattle.core_model.specs.Owners.{is_block}
 use Rattle.core_model.specs.Batching.{Made, made}
-use Rattle.core_model.specs.Succession.{Head, Log, FollowsHead, takes, stages_in, places_in}
+use Rattle.core_model.specs.Succession.{Head, Log, FollowsHead, takes, stages_in, all_places, staged_ranges}
+use Rattle.core_model.specs.Succession.{taken_lengths, places_in}
 
 -- each message may stand behind those before it
 abbrev pub Succeeds : Log → List Head → Type 0
@@ -33,6 +39,37 @@ pub record IsHeldBy (places : List Placed) (b : ℕ) : Type 0 where
   pub took : place.block ≡ Some b
   pub once : takes b back ≡ false
   pub kept : gives_up b back ≡ false
+
+-- How far uses go --------------------------------------------------------------------------------------------------
+
+-- the block stands in the one list where the length stands in the other
+abbrev pub IsAsLong : ℕ → ℕ → List ℕ → List ℕ → Type 0
+IsAsLong b n [] ns = ⊥
+IsAsLong b n (c ∷ bs) [] = ⊥
+IsAsLong b n (c ∷ bs) (m ∷ ns) = ((c ≡ b) × (m ≡ n)) ⊎ IsAsLong b n bs ns
+
+-- an item of message k took the block, with this length
+abbrev pub TakesWith : Script → ℕ → Head → ℕ → ℕ → Type 0
+TakesWith script k h b n = IsAsLong b n (somes (map (λ p. p.block) h.placed))
+    (taken_lengths script (chunk_turns script k))
+
+-- the range ends inside what the message may use: a page, as far as a range goes that it staged there, a block that it
+-- took, or the block of a buffer that lived before it
+abbrev pub IsInside : Log → List Head → Head → Range → Type 0
+IsInside log front h r =
+    ((before : List Range) × (q : Range) × (after : List Range) × (staged_ranges h.placed ≡ before ++ q ∷ after)
+    × (q.block ≡ r.block) × (r.to ≤ q.to))
+    ⊎ (((n : ℕ) × TakesWith log.script (suc (length front)) h r.block n × (r.to ≤ n))
+    ⊎ ((buffer : ℕ) × ((made_of log front).blocks buffer ≡ Some r.block) × (r.to ≤ log.script.size buffer)))
+
+-- the block has this length behind the messages: an item of one of them took it so, and no later one took it
+pub record IsLong (log : Log) (hs : List Head) (b n : ℕ) : Type 0 where
+  pub before : List Head
+  pub at : Head
+  pub behind : List Head
+  pub split : hs ≡ before ++ at ∷ behind
+  pub taken : TakesWith log.script (suc (length before)) at b n
+  pub once : takes b (all_places (places_in behind)) ≡ false
 
 -- Blocks that a device holds ------------------------------------------------------------------------------------------
 

@@ -331,7 +331,3 @@ FollowsCompletion log before m = CompletionBy log (map completion_head before) m
 
 abbrev pub FollowsPost : Log → List Post → Post → Type 0
 FollowsPost log before m = PostBy log (map post_head before) m
-
--- each of these heads follows those before it
-abbrev pub Succeeds : Log → List Head → Type 0
-Succeeds log hs = (front : List Head) (h : Head) (back : List Head) → hs ≡ front ++ h ∷ back → FollowsHead log front h

@@ -1,35 +1,42 @@
-ghost use Rattle.std.specs.Prelude.{◌≡◌, ℕ, suc, true, false, Some, List, [], ◌∷◌, ◌++◌};
-ghost use Rattle.vk_types.specs.Effects.{Meaning};
+ghost use Rattle.std.specs.Prelude.{◌≡◌, ℕ, suc, ◌≤◌, true, false, Some, List, [], ◌∷◌, ◌++◌, length};
+ghost use Rattle.std.specs.List.{AllByRecursion};
+ghost use Rattle.vk_types.specs.declared.message.Placed.{Placed};
+ghost use Rattle.vk_types.specs.Effects.{Meaning, act_touches};
 ghost use Rattle.core_model.specs.Script.{Script};
-ghost use Rattle.core_model.specs.CoreState.{Message, Page, Pool, Core, marks, of_messages, of_running, finished_count};
+ghost use Rattle.core_model.specs.CoreState.{Segment, Running, Message, Page, Core, marks, of_messages};
+ghost use Rattle.core_model.specs.CoreState.{of_running, finished_count, on_device};
+ghost use Rattle.core_model.specs.Batching.{made};
+ghost use Rattle.core_model.specs.Holding.{completed_count, placed_by, device_holds};
+ghost use Rattle.core_model.specs.Spine.{has_place};
 ghost use Rattle.core_model.specs.Adding.{has_block};
 ghost use Rattle.core_model.specs.Readings.{Reading};
 ghost use Rattle.core_model.specs.OtherParts.{is_among, used_in, needed_in};
-ghost use Rattle.core_model.specs.CoreStep.{Finish, Step};
+ghost use Rattle.core_model.specs.CoreStep.{App, Finish, Step};
 ghost use Rattle.core_model.specs.Succession.{only_class};
 ghost use Rattle.core_model.specs.Stands.{may_touch};
-ghost use Rattle.core_model.specs.Playing.{HasBlock};
-ghost use Rattle.core_model.specs.Placing.{PageChoice, Staged, Stages};
-ghost use Rattle.core_model.specs.Lawful.{IsLawful};
-ghost use Rattle.core_model.specs.Kept.{Kept};
 ghost use Rattle.core_model.specs.Marked.{IsOff, all_messages, IsMarkedBy, IsReturning};
 ghost use Rattle.core_model.specs.Reached.{IsReached};
 
-/// Laws of the blocks that buffers take, as they are created or discarded: such a block is no live buffer's, so that
-/// a discard takes another than its buffer had, and no command that is not finished touches it. Nor does one touch a
-/// page that a chunk takes.
+/// The law of what App takes, of a lawful script, in every state that steps reach from the start, in each reading. A
+/// block that an App step takes, for a buffer that is created or discarded, is no live buffer's, so that a discard
+/// takes another than its buffer had; and before the step no command that was not finished touched it. Nor did one
+/// touch a page that the step takes.
 pub fn taken_blocks_are_idle()
-    ensures strange { (meaning : Meaning) (reading : Reading) (script : Script) → IsLawful meaning script
-        → (old : Core) (buffer block : ℕ) (mid : Core)
-        → Kept meaning reading script old → HasBlock reading script buffer block old mid
-        → (r b : ℕ) → old.blocks r ≡ Some b → block ≡ b → ⊥ }
-    ensures idle { (meaning : Meaning) (reading : Reading) (script : Script) → IsLawful meaning script
-        → (old : Core) (buffer block : ℕ) (mid : Core)
-        → Kept meaning reading script old → HasBlock reading script buffer block old mid → may_touch old block ≡ false }
-    ensures pages { (meaning : Meaning) (reading : Reading) (script : Script) (old : Core) (choice : PageChoice)
-        (len : ℕ) (staged : Staged) (pool : Pool)
-        → Kept meaning reading script old → Stages choice len staged old.pool pool
-        → (page : Page) → staged.added ≡ page ∷ [] → may_touch old staged.block ≡ false }
+    ensures strange { (meaning : Meaning) (reading : Reading) (script : Script) (old : Core)
+        → IsReached meaning reading script old
+        → (posts : ℕ) (new : Core) → Step meaning reading script old (App posts) new
+        → (place : Placed) → new.open_chunk.placed ≡ old.open_chunk.placed ++ place ∷ []
+        → (block : ℕ) → place.block ≡ Some block → (buffer : ℕ) → old.blocks buffer ≡ Some block → ⊥ }
+    ensures idle { (meaning : Meaning) (reading : Reading) (script : Script) (old : Core)
+        → IsReached meaning reading script old
+        → (posts : ℕ) (new : Core) → Step meaning reading script old (App posts) new
+        → (place : Placed) → new.open_chunk.placed ≡ old.open_chunk.placed ++ place ∷ []
+        → (block : ℕ) → place.block ≡ Some block → may_touch old block ≡ false }
+    ensures pages { (meaning : Meaning) (reading : Reading) (script : Script) (old : Core)
+        → IsReached meaning reading script old
+        → (posts : ℕ) (new : Core) → Step meaning reading script old (App posts) new
+        → (page : Page) → new.open_chunk.pages ≡ old.open_chunk.pages ++ page ∷ []
+        → may_touch old page.block ≡ false }
 {}
 
 /// The law of marks. A block that a chunk gave up, until a buffer takes it again, is named by a mark of that chunk's
@@ -62,4 +69,26 @@ pub fn marked_blocks_come_home()
         → (b : ℕ) → has_block b m.segment.staging ≡ true → needed_in
         (of_messages others ++ of_running core.accepted) b ≡ false
         → (bytes : ℕ → ℕ) × (m.snaps b ≡ Some bytes) }
+{}
+
+/// The law of what the device holds, of a lawful script, in every state that steps reach from the start, in each
+/// reading. The submission that it accepts next takes only blocks that it doesn't hold, and stages bytes only in pages
+/// that it doesn't hold. And it holds every block that a command touches which is left to run, and every block to
+/// which the host writes a part for a chunk that was not completed.
+pub fn device_holds_what_it_uses()
+    ensures next { (meaning : Meaning) (reading : Reading) (script : Script) (core : Core)
+        → IsReached meaning reading script core
+        → (s : Segment) (ss : List Segment) → core.submissions ≡ s ∷ ss
+        → (block : ℕ) → has_place block s.placed ≡ true → device_holds core block ≡ false }
+    ensures left { (meaning : Meaning) (reading : Reading) (script : Script) (core : Core)
+        → IsReached meaning reading script core
+        → (front : List Running) (r : Running) (back : List Running) → core.accepted ≡ front ++ r ∷ back
+        → AllByRecursion (λ x. AllByRecursion (λ touch. device_holds core touch.range.block ≡ true)
+        (act_touches x.act)) r.rest }
+    ensures parts { (meaning : Meaning) (reading : Reading) (script : Script) (core : Core)
+        → IsReached meaning reading script core
+        → (front : List Segment) (s : Segment) (back : List Segment) → on_device core ≡ front ++ s ∷ back
+        → completed_count core ≤ length front
+        → AllByRecursion (λ written. device_holds core written.range.block ≡ true)
+        (made script (placed_by (front ++ s ∷ []))).writes }
 {}

@@ -10,8 +10,10 @@ ghost use Rattle.core_model.specs.BatchActs.{batch_acts, run_acts};
 ghost use Rattle.core_model.specs.Chunking.{after_chunk};
 ghost use Rattle.core_model.specs.Stands.{Stands};
 ghost use Rattle.core_model.specs.Succession.{Head, Log, takes, stages_in, all_places, staged_ranges, places_in};
+ghost use Rattle.core_model.specs.Adding.{length_of};
+ghost use Rattle.core_model.specs.Formed.{WorkIsFormed, CondIsFormed};
 ghost use Rattle.core_model.specs.Lawful.{IsLawful};
-ghost use Rattle.core_model.specs.Spine.{Succeeds, made_of, MayUse, IsHeldBy, holds_block};
+ghost use Rattle.core_model.specs.Spine.{Succeeds, made_of, MayUse, IsInside, IsLong, IsHeldBy, holds_block};
 ghost use Rattle.core_model.specs.BatchOrder.{IsBatchListing, ops_of, staging_at};
 
 /// The law of the batches of messages, whatever places these have. Their operations, batch behind batch, are a
@@ -33,7 +35,9 @@ pub fn batches_are_ordered()
 
 /// The law of what a message uses, in every succession of a lawful script's messages. The commands that its items
 /// make, and the host writes, are on blocks that it took, on those where it staged bytes, and on blocks of buffers
-/// that lived before it; and the buffers that live behind it have such blocks.
+/// that lived before it, and end inside these; and the buffers that live behind it have such blocks. The commands are
+/// ones that a device can do: lengths agree, words are whole, slots rise, and of two slots of one block none may be
+/// written.
 pub fn messages_use_their_blocks()
     ensures commands { (log : Log) → IsLawful log.meaning log.script → (front : List Head) (here : Head)
         → Succeeds log (front ++ here ∷ [])
@@ -47,6 +51,18 @@ pub fn messages_use_their_blocks()
         → Succeeds log (front ++ here ∷ [])
         → (buffer block : ℕ) → (made_of log (front ++ here ∷ [])).blocks buffer ≡ Some block
         → MayUse log front here block }
+    ensures inside { (log : Log) → IsLawful log.meaning log.script → (front : List Head) (here : Head)
+        → Succeeds log (front ++ here ∷ [])
+        → AllByRecursion (λ command. AllByRecursion (λ touch. IsInside log front here touch.range) (touches command))
+        (made_of log (front ++ here ∷ [])).listed }
+    ensures parts { (log : Log) → IsLawful log.meaning log.script → (front : List Head) (here : Head)
+        → Succeeds log (front ++ here ∷ [])
+        → AllByRecursion (λ written. IsInside log front here written.range)
+        (made_of log (front ++ here ∷ [])).writes }
+    ensures formed { (log : Log) → IsLawful log.meaning log.script → (front : List Head) (here : Head)
+        → Succeeds log (front ++ here ∷ [])
+        → AllByRecursion (λ command. WorkIsFormed command.work × CondIsFormed command.cond)
+        (made_of log (front ++ here ∷ [])).listed }
 {}
 
 /// The law of what a message takes, in every succession. A block that one of its items takes is no buffer's that
@@ -69,7 +85,8 @@ pub fn taken_blocks_are_apart()
 /// The law of held blocks, in every succession. The buffers that live behind messages have blocks of their own, and
 /// each of these is held: an item took it, and since then none took it again and none gave it up. So a device holds
 /// what the commands and the host writes of a message use that it accepted and did not complete, whatever it accepted
-/// behind it.
+/// behind it. The block of a buffer that lives has the length that the buffer wants: so the message took it that took
+/// it last.
 pub fn used_blocks_are_held()
     ensures held { (log : Log) (front : List Head) (here : Head) → Succeeds log (front ++ here ∷ [])
         → (buffer block : ℕ)
@@ -79,6 +96,9 @@ pub fn used_blocks_are_held()
         → (buffer other block : ℕ)
         → (made_of log (front ++ here ∷ [])).blocks buffer ≡ Some block
         → (made_of log (front ++ here ∷ [])).blocks other ≡ Some block → buffer ≡ other }
+    ensures lengths { (log : Log) → IsLawful log.meaning log.script → (front : List Head) → Succeeds log front
+        → (buffer block : ℕ) → (made_of log front).blocks buffer ≡ Some block
+        → IsLong log front block (length_of log.script buffer) }
     ensures commands { (log : Log) → IsLawful log.meaning log.script
         → (front : List Head) (here : Head) (back : List Head) → Succeeds log (front ++ here ∷ back)
         → (completed : ℕ) → completed ≤ length front

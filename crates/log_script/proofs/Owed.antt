@@ -33,6 +33,7 @@ pub mod ListRights
 pub mod FittingLogs
 pub mod SetShaders
 pub mod CreatedShaders
+pub mod ShownSlots
 pub mod FormedSlots
 pub mod FormedPlays
 pub mod ReadyStates

@@ -13,5 +13,7 @@ pub record Agrees (s : State) (w : InOrder) : Type 0 where
   pub bytes : (id : ℕ) (b : List ℕ) → get s.memory.bytes id ≡ Some b → Shows w.bytes (maker s.past id) b
   pub ran : w.total ≡ s.memory.ran
   -- of a query that counts: where it is begun, the invocations before its last Begin; where it was ended, the count
-  pub begun : (id : ℕ) (q : Query) → get s.objects.queries id ≡ Some q → q.sort ≡ 2 → q.begun ≡ true → get s.memory.begun_at id ≡ Some (w.begun id)
-  pub counted : (id : ℕ) (q : Query) → get s.objects.queries id ≡ Some q → q.sort ≡ 2 → (n : ℕ) → q.ended ≡ Some n → count_of s.memory id ≡ w.count id
+  pub begun : (id : ℕ) (q : Query) → get s.objects.queries id ≡ Some q → q.sort ≡ 2 → q.begun ≡ true
+      → get s.memory.begun_at id ≡ Some (w.begun id)
+  pub counted : (id : ℕ) (q : Query) → get s.objects.queries id ≡ Some q → q.sort ≡ 2 → (n : ℕ) → q.ended ≡ Some n
+      → count_of s.memory id ≡ w.count id

@@ -20,11 +20,13 @@ abbrev pub IsNoWait : Option Issued → Type 0
 IsNoWait None = ⊥
 IsNoWait (Some i) = DoesNotWait i.call
 
--- what the core says of a call is what in-order Direct3D says; a call that is pending does not wait, and names its last use,
--- which is not finished
+-- what the core says of a call is what in-order Direct3D says; a call that is pending does not wait, and names its
+-- last use, which is not finished
 abbrev pub AnswersAsDirect3d : List Issued → Said → Type 0
 AnswersAsDirect3d log (Bytes_said call bytes) = reply_at log none_pending call ≡ Some (said.Bytes call bytes)
 AnswersAsDirect3d log (Value_said call value) = reply_at log none_pending call ≡ Some (said.Value call value)
-AnswersAsDirect3d log (Still_said call used finished) = (last_use log call ≡ Some used) × (finished < used) × IsNoWait (call_at log call)
-AnswersAsDirect3d log (Refused_said call) = (why : Refusal) × (reply_at log none_pending call ≡ Some (said.Refused call why))
+AnswersAsDirect3d log (Still_said call used finished) = (last_use log call ≡ Some used) × (finished < used)
+    × IsNoWait (call_at log call)
+AnswersAsDirect3d log (Refused_said call) = (why : Refusal) ×
+    (reply_at log none_pending call ≡ Some (said.Refused call why))
 AnswersAsDirect3d log End_said = ⊤

@@ -28,7 +28,8 @@ pub record LivesAndFits (o : Objects) (r : ResRange) : Type 0 where
 abbrev pub ShaderLives : Objects → ℕ → Type 0
 ShaderLives o id = (id == 0) || is_live_shader o id ≡ true
 
--- a constant slot shows as many bytes as one can, of a live buffer of constants that has a byte. It is cut to the buffer as it is bound
+-- a constant slot shows as many bytes as one can, of a live buffer of constants that has a byte. It is cut to the
+-- buffer as it is bound
 pub record ConstantLives (o : Objects) (r : ResRange) : Type 0 where
   pub starts : r.from ≡ 0
   pub ends : r.to ≡ MAX_CONSTANT_SIZE

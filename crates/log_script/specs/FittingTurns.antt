@@ -1,5 +1,5 @@
--- What a call's turns bind, and what they have the host write and read, is of buffers that live when the call comes. Turns name
--- a buffer by the call that created it.
+-- What a call's turns bind, and what they have the host write and read, is of buffers that live when the call comes.
+-- Turns name a buffer by the call that created it.
 use Rattle.std.specs.Prelude.{◌≡◌, ℕ, ◌+◌, ◌<◌, ◌≤◌, true, ⊤, List, length, Option, Some, is_some}
 use Rattle.std.specs.List.{AllByRecursion}
 use Rattle.dx_types.specs.declared.range.Range.{Range}
@@ -51,13 +51,14 @@ abbrev pub AskFits : State → Ask → Type 0
 AskFits s (Bytes source) = ReadFits s source
 AskFits s _ = ⊤
 
--- a play of call n, which creates a buffer of this shape if it creates one. No more bytes are staged than a buffer may have, and
--- their target has as many
+-- a play of call n, which creates a buffer of this shape if it creates one. No more bytes are staged than a buffer
+-- may have, and their target has as many
 abbrev pub PlayFits : State → ℕ → Option Shape → Play → Type 0
 PlayFits s n made (Create buffer bytes) = (buffer ≡ n) × (length bytes ≤ size_of made)
 PlayFits s n made (Discard buffer from bytes) = WriteFits s buffer (from + length bytes)
 PlayFits s n made (No_overwrite buffer from bytes) = WriteFits s buffer (from + length bytes)
-PlayFits s n made (Stage bytes target skip) = (length bytes ≤ MAX_BUFFER_SIZE) × ((r : Range) → target ≡ Some r → r.to ≡ r.from + length bytes)
+PlayFits s n made (Stage bytes target skip) = (length bytes ≤ MAX_BUFFER_SIZE)
+    × ((r : Range) → target ≡ Some r → r.to ≡ r.from + length bytes)
 PlayFits s n made (Destroy buffer) = DestroysLive s buffer
 PlayFits s n made _ = ⊤
 

@@ -63,7 +63,8 @@ no_slots = record { constants = []; reads = []; writes = [] }
 -- a dispatch of the shader that a call creates leaves these words in each UAV slot, and runs so many invocations
 abbrev pub meaning_of : List Issued → Meaning
 meaning_of log = record {
-  words = λ shader groups slots u. words_in (ran_dispatch (words_by (call_at log shader)) groups (all_slots slots)).slots.writes u;
+  words = λ shader groups slots u. words_in (ran_dispatch (words_by (call_at log shader)) groups
+      (all_slots slots)).slots.writes u;
   count = λ shader groups. (ran_dispatch (words_by (call_at log shader)) groups no_slots).count;
 }
 

@@ -1,5 +1,6 @@
 -- What an accepted call has the core do: a play, whose ranges are of buffers by the calls that created them.
-use Rattle.std.specs.Prelude.{ℕ, suc, ◌/◌, ◌==◌, Bool, true, false, List, [], ◌∷◌, ◌++◌, length, Option, None, Some, if◌then◌else◌}
+use Rattle.std.specs.Prelude.{ℕ, suc, ◌/◌, ◌==◌, Bool, true, false, List, [], ◌∷◌, ◌++◌, length, Option, None, Some}
+use Rattle.std.specs.Prelude.{if◌then◌else◌}
 use Rattle.dx_types.specs.declared.range.Range.{Range}
 use Rattle.dx_types.specs.declared.range.ResRange.{ResRange}
 use Rattle.dx_types.specs.declared.shape.ViewShape.{ViewShape}
@@ -24,7 +25,8 @@ use Rattle.d3d_model.specs.Shader.{declared_by}
 use Rattle.d3d_model.specs.D3dState.{Objects, Shader, Query, buffer_of, words_set, bound_view}
 use Rattle.d3d_model.specs.Memory.{constants_shown, srvs_shown, uavs_shown}
 use Rattle.d3d_model.specs.Past.{Past}
-use Rattle.core_model.specs.Script.{Play, Create, Discard, No_overwrite, Stage, Command, Destroy, Create_shader, Mark_query, Set_state}
+use Rattle.core_model.specs.Script.{Play, Create, Discard, No_overwrite, Stage, Command, Destroy, Create_shader}
+use Rattle.core_model.specs.Script.{Mark_query, Set_state}
 use Rattle.log_script.specs.Makers.{maker, bytes_from, of_maker}
 
 -- ---- predication
@@ -48,7 +50,8 @@ predicated past p w = if skips p then Set_state else Command w (condition past p
 -- bytes that are staged. Where a query skips the call they are staged all the same; no bytes are not staged at all
 abbrev pub staged : Past → Predicate → List ℕ → Range → Play
 staged past p [] target = Set_state
-staged past p (b ∷ bs) target = if skips p then Stage (b ∷ bs) None None else Stage (b ∷ bs) (Some target) (condition past p)
+staged past p (b ∷ bs) target = if skips p then Stage (b ∷ bs) None None else Stage (b ∷ bs) (Some target)
+    (condition past p)
 
 -- ---- dispatches
 
@@ -56,13 +59,15 @@ staged past p (b ∷ bs) target = if skips p then Stage (b ∷ bs) None None els
 abbrev pub slots_from : Past → (ℕ → SlotName) → ℕ → List (Option ResRange) → List SlotRange
 slots_from past name i [] = []
 slots_from past name i (None ∷ shown) = slots_from past name (suc i) shown
-slots_from past name i (Some r ∷ shown) = record { slot = name i; range = of_maker past r } ∷ slots_from past name (suc i) shown
+slots_from past name i (Some r ∷ shown) = record { slot = name i; range = of_maker past r } ∷ slots_from past name
+    (suc i) shown
 
 -- the slots of a dispatch that the shader declares and that fit: constants, shader resources, unordered access views
 abbrev pub slots_listed : Past → Objects → Bindings → List SlotRange
 slots_listed past o b =
     let ds = declared_by (words_set o b) in
-    slots_from past slot.Constant 0 (constants_shown o b ds) ++ (slots_from past slot.Srv 0 (srvs_shown b ds) ++ slots_from past slot.Uav 0 (uavs_shown b ds))
+    slots_from past slot.Constant 0 (constants_shown o b ds)
+    ++ (slots_from past slot.Srv 0 (srvs_shown b ds) ++ slots_from past slot.Uav 0 (uavs_shown b ds))
 
 -- the call that created a shader
 abbrev pub creator : Option Shader → ℕ
@@ -97,7 +102,8 @@ clears past p (Some v) v0 v1 v2 v3 = predicated past p (clear past v.shape v0 v1
 -- a copy of so many bytes. Of none it is no command
 abbrev pub copies : Past → Predicate → (target target_offset source source_offset len : ℕ) → Play
 copies past p target target_offset source source_offset len =
-    if len == 0 then Set_state else predicated past p (work.Copy (bytes_from past source source_offset len) (bytes_from past target target_offset len))
+    if len == 0 then Set_state else predicated past p (work.Copy (bytes_from past source source_offset len)
+    (bytes_from past target target_offset len))
 
 abbrev pub whole : Past → Objects → ℕ → Range
 whole past o res = bytes_from past res 0 (size_of (buffer_of o res))
@@ -124,10 +130,14 @@ maps past res mode offset bytes =
 -- a call that may stand in a list, where these bindings are set
 abbrev pub play_of : Past → Objects → Bindings → Call → Play
 play_of past o b (calls.Dispatch x y z) = predicated past b.predicate (dispatch past o b (groups.Direct x y z))
-play_of past o b (calls.DispatchIndirect res offset) = predicated past b.predicate (dispatch past o b (groups.Indirect (bytes_from past res offset 12)))
-play_of past o b (calls.CopyRegion target target_offset source source_offset len) = copies past b.predicate target target_offset source source_offset len
-play_of past o b (calls.Copy target source) = predicated past b.predicate (work.Copy (whole past o source) (whole past o target))
-play_of past o b (calls.Update res offset bytes) = staged past b.predicate bytes (bytes_from past res offset (length bytes))
+play_of past o b (calls.DispatchIndirect res offset) = predicated past b.predicate
+    (dispatch past o b (groups.Indirect (bytes_from past res offset 12)))
+play_of past o b (calls.CopyRegion target target_offset source source_offset len) =
+    copies past b.predicate target target_offset source source_offset len
+play_of past o b (calls.Copy target source) = predicated past b.predicate
+    (work.Copy (whole past o source) (whole past o target))
+play_of past o b (calls.Update res offset bytes) = staged past b.predicate bytes
+    (bytes_from past res offset (length bytes))
 play_of past o b (calls.ClearUav view v0 v1 v2 v3) = clears past b.predicate (bound_view o view) v0 v1 v2 v3
 play_of past o b (calls.Begin query) = marks o query true
 play_of past o b (calls.EndQuery query) = marks o query false

@@ -40,17 +40,22 @@ pub record KeepsPromise (log : List Issued) (core : Core) : Type 0 where
   pub listing : IsRunListing core.is_staging core.listing
   pub covered : Covered core.listing
   pub orders : (order : List ℕ) → IsAllowed core.listing order
-      → outcome (meaning_of log) core.contents core.listing order ≡ outcome (meaning_of log) core.contents core.listing (acts core.listing)
+      → outcome (meaning_of log) core.contents core.listing order
+      ≡ outcome (meaning_of log) core.contents core.listing (acts core.listing)
   -- under each allowed order each host read gives the bytes that Direct3D answers to its call
-  pub reads : (call : ℕ) (r : Range) (place : ℕ) → slice_get core.listing place ≡ Some (op.HostRead r call) → (order : List ℕ) → IsAllowed core.listing order
-      → reply_at log none_pending call ≡ Some (said.Bytes call (map ((outcome (meaning_of log) core.contents core.listing order).answers place) (numbers_from 0 (r.to - r.from))))
+  pub reads : (call : ℕ) (r : Range) (place : ℕ) → slice_get core.listing place ≡ Some (op.HostRead r call)
+      → (order : List ℕ) → IsAllowed core.listing order
+      → reply_at log none_pending call
+      ≡ Some (said.Bytes call (map ((outcome (meaning_of log) core.contents core.listing order).answers place)
+      (numbers_from 0 (r.to - r.from))))
   -- and each answer in bytes to a call that has a last use has its host read
-  pub reads_stand : (call : ℕ) (bytes : List ℕ) → IsSaid core (Bytes_said call bytes) → (used : ℕ) → last_use log call ≡ Some used
+  pub reads_stand : (call : ℕ) (bytes : List ℕ) → IsSaid core (Bytes_said call bytes) → (used : ℕ)
+      → last_use log call ≡ Some used
       → (r : Range) × (place : ℕ) × (slice_get core.listing place ≡ Some (op.HostRead r call))
   -- no command that is not finished touches a block that may be handed out
   pub idle : FreeIsIdle core
-  -- the chunks are the log's, each of their commands was run once, in an order that keeps what is ordered, and memory is what the
-  -- listing's order leaves
+  -- the chunks are the log's, each of their commands was run once, in an order that keeps what is ordered, and memory
+  -- is what the listing's order leaves
   pub chunks : turns_of core.taken ≡ chunks (script_of log)
   pub each_once : IsReordering (commands_of core.taken) core.ran
   pub order : EntriesKeep core.ran

@@ -66,8 +66,8 @@ CallStands o (calls.Draw kind body) = ⊤
 
 -- ---- views
 
--- elements of so many bytes are whole words: a raw view's are one word, a structured one's as many as the stride has, and a
--- typed one's 1, 2 or 4
+-- elements of so many bytes are whole words: a raw view's are one word, a structured one's as many as the stride has,
+-- and a typed one's 1, 2 or 4
 abbrev pub WholeUnit : Form → ℕ → Type 0
 WholeUnit Raw unit = unit ≡ 4
 WholeUnit Structured unit = (unit % 4 ≡ 0) × (4 ≤ unit)

@@ -36,9 +36,11 @@ abbrev pub immediate_turns : ℕ → State → Call → List Turn
 immediate_turns n s (calls.MapRead res flag offset len) =
     Asked n (Bytes (bytes_from s.past res offset len)) (use_in s (calls.MapRead res flag offset len)) (flag == 1) ∷ []
 immediate_turns n s (calls.GetData query flag) =
-    Asked n (ask_of query (sort_if (ids.get s.objects.queries query))) (use_in s (calls.GetData query flag)) (flag == 1) ∷ []
+    Asked n (ask_of query (sort_if (ids.get s.objects.queries query))) (use_in s (calls.GetData query flag))
+    (flag == 1) ∷ []
 immediate_turns n s calls.Flush = Flushed n ∷ []
-immediate_turns n s (calls.ExecuteList list flag) = list_items n s.past (list_start s.objects) (calls_of_list s.objects list)
+immediate_turns n s (calls.ExecuteList list flag) = list_items n s.past (list_start s.objects)
+    (calls_of_list s.objects list)
 immediate_turns n s _ = Passed n ∷ []
 
 abbrev pub turns_by_place : Place → ℕ → State → ℕ → Call → List Turn

@@ -6,7 +6,9 @@ use Rattle.vk_types.specs.declared.command.SlotName.TheVariants as slot
 use Rattle.vk_types.specs.Memory.{range}
 use Rattle.call_log.specs.Call as call
 use Rattle.call_log.specs.Call.{Call, Issued}
-use Rattle.core_model.specs.Script.{Create, Discard, No_overwrite, Stage, Command, Destroy, Create_shader, Mark_query, Set_state, Bytes, Count, Constant, Turn, Refused, Passed, Flushed, Asked, Item, Script}
+use Rattle.core_model.specs.Script.{Create, Discard, No_overwrite, Stage, Command, Destroy, Create_shader, Mark_query}
+use Rattle.core_model.specs.Script.{Set_state, Bytes, Count, Constant, Turn, Refused, Passed, Flushed, Asked, Item}
+use Rattle.core_model.specs.Script.{Script}
 
 abbrev at : ℕ → Call → Issued
 at x c = record { context = x; call = c }
@@ -42,7 +44,9 @@ no_overwrite_turns =
     sets 4 ∷
     sets 5 ∷
     Item 6 6 true (Command (work.Dispatch 3 (groups.Direct 1 1 1) []) None) (range 1 0 16 ∷ []) ∷
-    Item 7 7 true (No_overwrite 1 16 (255 ∷ 255 ∷ 255 ∷ 255 ∷ 255 ∷ 255 ∷ 255 ∷ 255 ∷ 255 ∷ 255 ∷ 255 ∷ 255 ∷ 255 ∷ 255 ∷ 255 ∷ 255 ∷ [])) [] ∷
+    Item 7 7 true
+    (No_overwrite 1 16 (255 ∷ 255 ∷ 255 ∷ 255 ∷ 255 ∷ 255 ∷ 255 ∷ 255 ∷ 255 ∷ 255 ∷ 255 ∷ 255 ∷ 255 ∷ 255 ∷ 255
+    ∷ 255 ∷ [])) [] ∷
     Refused 8 ∷
     []
 
@@ -70,7 +74,9 @@ list_turns =
 -- a query around three dispatches, two of them with counts that stand in a buffer
 abbrev pub statistics_turns : List Turn
 statistics_turns =
-    Item 1 1 true (Create 1 (0 ∷ 0 ∷ 0 ∷ 0 ∷ 1 ∷ 0 ∷ 0 ∷ 0 ∷ 1 ∷ 0 ∷ 0 ∷ 0 ∷ 0 ∷ 0 ∷ 1 ∷ 0 ∷ 1 ∷ 0 ∷ 0 ∷ 0 ∷ 1 ∷ 0 ∷ 0 ∷ 0 ∷ [])) [] ∷
+    Item 1 1 true
+    (Create 1 (0 ∷ 0 ∷ 0 ∷ 0 ∷ 1 ∷ 0 ∷ 0 ∷ 0 ∷ 1 ∷ 0 ∷ 0 ∷ 0 ∷ 0 ∷ 0 ∷ 1 ∷ 0 ∷ 1 ∷ 0 ∷ 0 ∷ 0 ∷ 1 ∷ 0 ∷ 0 ∷ 0 ∷
+    [])) [] ∷
     Item 2 2 true Create_shader [] ∷
     sets 3 ∷
     sets 4 ∷
@@ -91,20 +97,24 @@ predicate_turns =
     Item 4 4 true (Create 4 []) [] ∷
     Item 5 5 true (Command (work.Fill (range 1 0 4) 1) None) (range 1 0 4 ∷ []) ∷
     sets 6 ∷
-    Item 7 7 true (Command (work.Copy (range 3 0 4) (range 4 0 4)) (Some (record { at = range 1 0 4; value = 1 }))) (range 3 0 4 ∷ range 4 0 4 ∷ range 1 0 4 ∷ []) ∷
+    Item 7 7 true (Command (work.Copy (range 3 0 4) (range 4 0 4)) (Some (record { at = range 1 0 4; value = 1 })))
+    (range 3 0 4 ∷ range 4 0 4 ∷ range 1 0 4 ∷ []) ∷
     Asked 8 (Bytes (range 4 0 4)) (Some 7) false ∷
     []
 
 -- a dispatch that stores through a view. Its slots are those that the shader declares
 abbrev pub store_turns : List Turn
 store_turns =
-    Item 7 7 true (Command (work.Dispatch 4 (groups.Direct 1 1 1) (record { slot = slot.Uav 0; range = range 1 0 16 } ∷ [])) None) (range 1 0 16 ∷ []) ∷
+    Item 7 7 true
+    (Command (work.Dispatch 4 (groups.Direct 1 1 1) (record { slot = slot.Uav 0; range = range 1 0 16 } ∷ []))
+    None) (range 1 0 16 ∷ []) ∷
     Item 8 8 true (Command (work.Copy (range 1 0 16) (range 2 0 16)) None) (range 1 0 16 ∷ range 2 0 16 ∷ []) ∷
     Asked 9 (Bytes (range 2 0 16)) (Some 8) false ∷
     []
 
--- an id that is used again names another buffer: the one that its latest creation made, by its call. A query of another sort
--- counts nothing, and its predicate skips what its value says, though the skipped update is staged and binds all the same
+-- an id that is used again names another buffer: the one that its latest creation made, by its call. A query of
+-- another sort counts nothing, and its predicate skips what its value says, though the skipped update is staged and
+-- binds all the same
 unfoldable pub reused_ids_log : List Issued
 reused_ids_log =
     at 0 (call.Buffer 1 8 0 0 0 0 []) ∷
@@ -139,7 +149,8 @@ reused_ids_turns =
     Flushed 13 ∷
     []
 
--- what a script says of the two buffers of the list's log: a dynamic one of eight bytes, and a staging one. No other call creates one
+-- what a script says of the two buffers of the list's log: a dynamic one of eight bytes, and a staging one. No other
+-- call creates one
 abbrev pub HasListBuffers : Script → Type 0
 HasListBuffers script =
     (script.calls ≡ 12) × (script.size 1 ≡ 8) × (script.size 2 ≡ 8) × (script.size 3 ≡ 0)

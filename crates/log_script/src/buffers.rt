@@ -12,15 +12,20 @@ ghost use Rattle.log_script.specs.LogScript.{shape_made, meaning_of, turns_upto,
 pub fn buffers_are_named_by_their_calls()
     // a live buffer's maker is an earlier call, which created a buffer of this shape
     ensures made { (log : List Issued) (n id : ℕ) (s : Shape) → buffer_of (after_calls log n).objects id ≡ Some s
-        → (1 ≤ maker (after_calls log n).past id) × (maker (after_calls log n).past id ≤ n) × (shape_made log (maker (after_calls log n).past id) ≡ Some s) }
+        → (1 ≤ maker (after_calls log n).past id) × (maker (after_calls log n).past id ≤ n)
+        × (shape_made log (maker (after_calls log n).past id) ≡ Some s) }
     // two live buffers have two makers
     ensures apart { (log : List Issued) (n id other : ℕ)
-        → is_some (buffer_of (after_calls log n).objects id) ≡ true → is_some (buffer_of (after_calls log n).objects other) ≡ true
+        → is_some (buffer_of (after_calls log n).objects id) ≡ true
+        → is_some (buffer_of (after_calls log n).objects other) ≡ true
         → maker (after_calls log n).past id ≡ maker (after_calls log n).past other → id ≡ other }
     // behind the turns of the first calls, the script's live buffers are those that the state has
     ensures live { (log : List Issued) (n : ℕ) → n ≤ length log → (b : ℕ)
-        → ((in_order (meaning_of log) (script_of log) (turns_upto log n) at_start).live b ≡ true → (id : ℕ) × (is_some (buffer_of (after_calls log n).objects id) ≡ true) × (maker (after_calls log n).past id ≡ b))
-        × ((id : ℕ) → is_some (buffer_of (after_calls log n).objects id) ≡ true → maker (after_calls log n).past id ≡ b → (in_order (meaning_of log) (script_of log) (turns_upto log n) at_start).live b ≡ true) }
+        → ((in_order (meaning_of log) (script_of log) (turns_upto log n) at_start).live b ≡ true → (id : ℕ)
+        × (is_some (buffer_of (after_calls log n).objects id) ≡ true) × (maker (after_calls log n).past id ≡ b))
+        × ((id : ℕ) → is_some (buffer_of (after_calls log n).objects id) ≡ true
+        → maker (after_calls log n).past id ≡ b
+        → (in_order (meaning_of log) (script_of log) (turns_upto log n) at_start).live b ≡ true) }
 {}
 
 /// At most 32 dynamic buffers of a class live, wherever the script is cut.

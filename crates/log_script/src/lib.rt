@@ -1,5 +1,5 @@
-//! A log as the core plays it: definitions of its script, and laws that tie the script to in-order Direct3D. The functions
-//! here are empty: each is named for a law, which its clauses state.
+//! A log as the core plays it: definitions of its script, and laws that tie the script to in-order Direct3D. The
+//! functions here are empty: each is named for a law, which its clauses state.
 #![tactic(auto)]
 
 ghost use Rattle.std.specs.Prelude.{◌≡◌, length, drop};

@@ -11,9 +11,9 @@ ghost use Rattle.vk_types.specs.Effects.{SlotWords};
 ghost use Rattle.log_script.specs.LogScript.{words_by, all_slots, meaning_of};
 ghost use Rattle.log_script.specs.Modules.{IsModuleOf};
 
-/// A module of each shader means what the log's shaders mean. On slots that fit a dispatch of the module that is not too large
-/// has an outcome, which leaves in each unordered access view the words that the log's meaning leaves there, and runs as many
-/// invocations. One that is too large leaves the words and runs none, by both.
+/// A module of each shader means what the log's shaders mean. On slots that fit a dispatch of the module that is not
+/// too large has an outcome, which leaves in each unordered access view the words that the log's meaning leaves
+/// there, and runs as many invocations. One that is too large leaves the words and runs none, by both.
 pub fn modules_mean_their_shaders()
     ensures outcome { (log : List Issued) (shader : ℕ) (program : Program) (words : List ℕ)
         → shader_of (words_by (call_at log shader)) ≡ Some program → IsModuleOf words program

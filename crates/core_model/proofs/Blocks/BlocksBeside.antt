@@ -1,5 +1,5 @@
 -- What holds beside the invariant as bytes are written and an item is placed.
-use Rattle.std.proofs.Common.{◌≡◌, ℕ, ◌≤◌, Bool, true, false, cond, max, ◌==◌, nat_le, List, [], ◌∷◌, ◌++◌, refl, sym}
+use Rattle.std.proofs.Common.{◌≡◌, ℕ, ◌≤◌, Bool, true, false, cond, max, ◌==◌, List, [], ◌∷◌, ◌++◌, refl, sym}
 use Rattle.std.proofs.Common.{ap, ◌∙◌, subst, inl, inr, Some, None, arith}
 use Rattle.std.proofs.lemmas.Bool.{both_ways, cases_Bool, eqb-true, eq-eqb}
 use Rattle.dx_types.specs.declared.range.Range.{Range}
@@ -7,26 +7,23 @@ use Rattle.vk_types.specs.declared.message.Placed.{Placed}
 use Rattle.vk_types.specs.declared.op.VkOp.{VkOp}
 use Rattle.vk_types.specs.Memory.{range, number_at}
 use Rattle.vk_types.specs.Effects.{Meaning}
-use Rattle.core_model.specs.Script.{Play, Create, Discard, Turn, Item, Script, padded, updated}
+use Rattle.core_model.specs.Script.{Play, Create, Turn, Item, Script, padded, updated}
 use Rattle.core_model.specs.Chunking.{is_entry, entry_count}
 use Rattle.core_model.specs.CoreState.{Owner, Unmade, Live, has_class, Board, Pool, Core, later, taken_count}
-use Rattle.core_model.specs.CoreState.{open_number}
 use Rattle.core_model.specs.Readings.{Reading}
-use Rattle.core_model.specs.Owners.{nothing_bound, retire_owner, retired}
-use Rattle.core_model.specs.Adding.{with_turn, with_write, with_placed, placed_at, fenced, gives_block, length_of}
+use Rattle.core_model.specs.Owners.{nothing_bound}
+use Rattle.core_model.specs.Adding.{with_turn, with_write, with_placed, placed_at, gives_block, length_of}
 use Rattle.core_model.specs.Adding.{retired_by}
-use Rattle.core_model.specs.AppActs.{TakesTurn}
 use Rattle.core_model.specs.Playing.{HasBlock}
-use Rattle.core_model.specs.Lawful.{resets, PlaysRightly, IsLawful}
+use Rattle.core_model.specs.Lawful.{resets, IsLawful}
 use Rattle.core_model.specs.Invariant.{IsLive}
 use Rattle.core_model.specs.Kept.{IsMade, PlacesRight, Beside, IsTraced, Kept}
 use Rattle.core_model.proofs.Steps.Giving.{IsVacant, vacant_lives, vacant_buffer, stocked, vacant, own_unmade}
 use Rattle.core_model.proofs.Steps.Giving.{has_parts}
-use Rattle.core_model.proofs.Steps.Discarding.{not_retired}
 use Rattle.core_model.proofs.Runs.Tracing.{entries_last, one_entry, traced_blocks}
 use Rattle.core_model.proofs.Runs.StepsKeepAll.{places_later}
 use Rattle.core_model.proofs.Runs.TurnsKeepAll.{BesideAnd}
-use Rattle.core_model.proofs.Blocks.BoundRanges.{unconcerned, retired_beside}
+use Rattle.core_model.proofs.Blocks.BoundRanges.{unconcerned}
 use Rattle.core_model.proofs.Blocks.TakenBlocks.{had_places, had_newest, own_classless, given_beside}
 use Rattle.vk_types.specs.declared.op.VkOp.TheVariants as op
 
@@ -114,7 +111,8 @@ module _ (meaning : Meaning) (reading : Reading) (script : Script) (lawful : IsL
       fence = fence;
     }
 
-    pub has_beside : Beside script (record (gives_block buffer block taken) { is_staging = is_staging; copies = copies })
+    pub has_beside : Beside script
+        (record (gives_block buffer block taken) { is_staging = is_staging; copies = copies })
     has_beside =
         let places : PlacesRight parts.0 parts.1 (updated block (Live buffer fence nothing_bound) own) fence =
         subst (λ c. PlacesRight c.board c.pool (updated block (Live buffer fence nothing_bound) own) fence) parts.2

@@ -1,10 +1,9 @@
 -- Blocks that items took are buffers' or were, blocks that bytes are staged in are pages or were, and a block that a
 -- chunk gave up has a mark of that chunk, with no taking since.
-use Rattle.std.proofs.Common.{◌≡◌, ℕ, zero, suc, Bool, true, false, cond, ◌||◌, ◌==◌, List, [], ◌∷◌, ◌++◌, length}
-use Rattle.std.proofs.Common.{refl, sym, ap, ◌∙◌, subst, ◌⊎◌, inl, inr, Option, Some, None, arith, append_assoc}
+use Rattle.std.proofs.Common.{◌≡◌, ℕ, zero, suc, true, false, cond, ◌==◌, List, [], ◌∷◌, ◌++◌, length}
+use Rattle.std.proofs.Common.{refl, sym, ap, ◌∙◌, subst, ◌⊎◌, inl, inr, Option, Some, None, arith}
 use Rattle.std.proofs.Common.{append-nil}
 use Rattle.std.proofs.lemmas.Bool.{both_ways, cases_Bool, or_cases, eqb-true, eq-eqb}
-use Rattle.std.proofs.lemmas.List.Folds.{list_any-append}
 use Rattle.dx_types.specs.declared.range.Range.{Range}
 use Rattle.vk_types.specs.declared.message.Placed.{Placed}
 use Rattle.vk_types.specs.Effects.{Meaning}

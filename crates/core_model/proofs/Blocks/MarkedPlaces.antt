@@ -1,37 +1,13 @@
 -- Marks of messages as one place more stands behind them.
-use Rattle.std.proofs.Common.{◌≡◌, ℕ, zero, suc, Bool, true, false, cond, ◌||◌, ◌==◌, List, [], ◌∷◌, ◌++◌, length}
-use Rattle.std.proofs.Common.{refl, sym, ap, ◌∙◌, subst, ◌⊎◌, inl, inr, Option, Some, None, arith, append_assoc}
+use Rattle.std.proofs.Common.{◌≡◌, ℕ, suc, Bool, true, false, ◌||◌, List, [], ◌∷◌, ◌++◌, length}
+use Rattle.std.proofs.Common.{refl, sym, ap, ◌∙◌, ◌⊎◌, inl, inr, Some, append_assoc}
 use Rattle.std.proofs.Common.{append-nil}
-use Rattle.std.proofs.lemmas.Bool.{both_ways, cases_Bool, or_cases, eqb-true, eq-eqb}
 use Rattle.std.proofs.lemmas.List.Folds.{list_any-append}
-use Rattle.dx_types.specs.declared.range.Range.{Range}
 use Rattle.vk_types.specs.declared.message.Placed.{Placed}
-use Rattle.vk_types.specs.Effects.{Meaning}
-use Rattle.core_model.specs.Script.{Turn, Item, Script, updated}
-use Rattle.core_model.specs.CoreState.{Page, Owner, Unmade, Home, Returning, Spare, Live, Retired, Paged, Dropped}
-use Rattle.core_model.specs.CoreState.{Pool, Core, open_number, taken_count, finished_count}
-use Rattle.core_model.specs.Readings.{Reading}
-use Rattle.core_model.specs.Owners.{nothing_bound, bind_owner, retired, is_block}
-use Rattle.core_model.specs.Adding.{with_turn, placed_at, staged_range, page_owner}
-use Rattle.core_model.specs.TakingPosts.{TakesPosts, with_post, with_fence}
-use Rattle.core_model.specs.AppActs.{handed_over}
-use Rattle.core_model.specs.CoreStep.{Event, App, Cs, Pipe, Submit, Accept, Run, Complete, Finish, Come_home}
-use Rattle.core_model.specs.CoreStep.{is_of_app, Step}
-use Rattle.core_model.specs.Lawful.{IsLawful}
-use Rattle.core_model.specs.Invariant.{handed}
-use Rattle.core_model.specs.Marked.{IsOff, all_messages, IsMarkedBy}
-use Rattle.core_model.specs.Kept.{Kept}
+use Rattle.core_model.specs.Owners.{is_block}
+use Rattle.core_model.specs.Marked.{IsMarkedBy}
 use Rattle.core_model.specs.Succession.{takes, stages_in, is_staged_in, all_places}
-use Rattle.core_model.proofs.Steps.Giving.{IsVacant, stocked, vacant}
-use Rattle.core_model.proofs.Messages.Placements.{places_of, length_places, places_of_append, all_places_append}
-use Rattle.core_model.proofs.Blocks.BlockSorts.{IsBuffers, IsPage, SortKept, same_sort, bind_sort, finish_sort}
-use Rattle.core_model.proofs.Blocks.BlockSorts.{return_sort, home_sort, SortGiven, given_sort, SortStaged}
-use Rattle.core_model.proofs.Blocks.BlockSorts.{stages_sort}
-use Rattle.core_model.proofs.Messages.ItemResults.{Placement, Nowhere, Bound_alone, Taken_new, Taken_for, Given_up}
-use Rattle.core_model.proofs.Messages.ItemResults.{Staged_there}
-use Rattle.core_model.proofs.Messages.ItemCases.{result_of, result_placed}
-use Rattle.core_model.proofs.Messages.ListedBatches.{handed_long}
-use Rattle.core_model.proofs.Messages.Scenes.{Kinds, scene, other_scene, posts_scene, handed_scene}
+use Rattle.core_model.proofs.Messages.Placements.{all_places_append}
 
 -- One place more ----------------------------------------------------------------------------------------------------
 

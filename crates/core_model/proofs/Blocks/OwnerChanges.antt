@@ -1,16 +1,11 @@
 -- How what holds beside the invariant is kept: where blocks and pages stand, as owners change.
-use Rattle.std.proofs.Common.{◌≡◌, ℕ, zero, suc, ◌+◌, ◌*◌, ◌<◌, ◌≤◌, Bool, true, false, cond, ◌||◌, ◌==◌, List, []}
-use Rattle.std.proofs.Common.{◌∷◌, refl, sym, ap, ◌∙◌, subst, inl, inr, Option, Some, slice_get, slice_set, arith}
-use Rattle.std.specs.List.{AllByRecursion}
+use Rattle.std.proofs.Common.{◌≡◌, ℕ, zero, suc, ◌<◌, Bool, true, false, cond, ◌==◌, List, []}
+use Rattle.std.proofs.Common.{◌∷◌, refl, sym, ap, subst, inl, inr, Option, Some, slice_get, slice_set, arith}
 use Rattle.std.proofs.lemmas.Bool.{cases_Bool, eqb-true, eq-eqb}
-use Rattle.dx_types.specs.declared.range.Range.{Range}
-use Rattle.base_lemmas.proofs.Lists.{all_map}
-use Rattle.core_model.specs.Script.{Script}
-use Rattle.core_model.specs.CoreState.{Segment, Owner, Unmade, Home, Returning, Spare, Live, Retired, Paged, Dropped}
-use Rattle.core_model.specs.CoreState.{has_class, Board, Pool}
-use Rattle.core_model.specs.Owners.{in_ranges, bind_owner, retire_owner, is_block, finish_owner, return_owner}
-use Rattle.core_model.specs.Kept.{IsPageOf, IsFreeFrom, IsTakenBy, IsOfBuffer, IsMade, bound_at, ArePaged}
-use Rattle.core_model.specs.Kept.{PlacesRight, BlocksRight, Names}
+use Rattle.core_model.specs.CoreState.{Owner, Unmade, Home, Returning, Spare, Live, Retired, Paged, Dropped}
+use Rattle.core_model.specs.CoreState.{has_class}
+use Rattle.core_model.specs.Owners.{retire_owner, is_block, finish_owner, return_owner}
+use Rattle.core_model.specs.Kept.{IsPageOf, IsFreeFrom, IsTakenBy, IsOfBuffer, IsMade, bound_at}
 pub use Rattle.core_model.proofs.Blocks.OwnerBinding.{places_by, blocks_by, names_by, named_by, paged_by, bind_page}
 pub use Rattle.core_model.proofs.Blocks.OwnerBinding.{bind_keeps, bind_free, bind_bound}
 use Rattle.core_model.proofs.Blocks.OwnerBinding.{Keeps}

@@ -1,30 +1,16 @@
 -- The parts of the distance to the end.
-use Rattle.std.proofs.Common.{◌≡◌, ℕ, zero, suc, ◌+◌, ◌*◌, ◌<◌, ◌≤◌, Bool, true, false, cond, ◌||◌, ◌&&◌, not, nat_lt}
-use Rattle.std.proofs.Common.{nat_le, List, [], ◌∷◌, ◌++◌, length, refl, sym, ap, ◌∙◌, subst, inl, inr, Option, Some}
-use Rattle.std.proofs.Common.{None, arith, length-append}
+use Rattle.std.proofs.Common.{◌≡◌, ℕ, zero, suc, ◌+◌, ◌<◌, ◌≤◌, Bool, true, false, cond, ◌||◌, ◌&&◌, not, nat_lt}
+use Rattle.std.proofs.Common.{nat_le, List, [], ◌∷◌, ◌++◌, length, refl, sym, ap, ◌∙◌, subst}
+use Rattle.std.proofs.Common.{arith, length-append}
 use Rattle.std.proofs.lemmas.Bool.{lt-ltb}
-use Rattle.dx_types.specs.declared.range.Range.{Range}
-use Rattle.vk_types.specs.Effects.{Meaning}
-use Rattle.core_model.specs.Script.{Play, Create, Discard, No_overwrite, Stage, Command, Destroy, Create_shader}
-use Rattle.core_model.specs.Script.{Mark_query, Set_state, Ask, Bytes, Count, Constant, Turn, Refused, Passed}
+use Rattle.core_model.specs.Script.{Create, Discard, No_overwrite, Stage, Command, Destroy, Create_shader}
+use Rattle.core_model.specs.Script.{Mark_query, Set_state, Turn, Refused, Passed}
 use Rattle.core_model.specs.Script.{Flushed, Asked, Item, Script}
 use Rattle.core_model.specs.Chunking.{is_entry, entry_count, mark_count, staged_count, is_full, in_list, stops_next}
 use Rattle.core_model.specs.Chunking.{is_due}
-use Rattle.core_model.specs.CoreState.{Segment, Running, Message, Core, rests, of_messages}
-use Rattle.core_model.specs.Readings.{First_choices}
-use Rattle.core_model.specs.Adding.{with_turn}
-use Rattle.core_model.specs.AppActs.{TakesTurn, Acts, answer, handed_over}
-use Rattle.core_model.specs.OtherParts.{created_by, created, unmade, snaps_of, values_of}
-use Rattle.core_model.specs.Playing.{Plays}
-use Rattle.core_model.specs.TakingPosts.{TakesPosts, with_post, with_fence}
-use Rattle.core_model.specs.CoreStep.{Event, App, Cs, Pipe, Submit, Accept, Run, Complete, Finish, Come_home, Step}
-use Rattle.core_model.specs.CoreStep.{AllComeHome, CoreStep}
-use Rattle.core_model.specs.Ends.{sum_of, to_come, distance}
-use Rattle.core_model.proofs.Steps.QueueHeads.{one_more}
-use Rattle.core_model.proofs.Runs.Tracing.{entries_last}
-use Rattle.core_model.proofs.Messages.ItemResults.{applied}
-use Rattle.core_model.proofs.Messages.ItemCases.{result_of, result_is}
-use Rattle.core_model.proofs.Ends.FewerShaders.{unmade_append, unmade_short, one_fewer}
+use Rattle.core_model.specs.CoreState.{Segment, Running, Core, rests}
+use Rattle.core_model.specs.OtherParts.{created_by, created}
+use Rattle.core_model.specs.Ends.{sum_of, to_come}
 
 -- Sums --------------------------------------------------------------------------------------------------------------
 

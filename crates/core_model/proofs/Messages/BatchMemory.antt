@@ -1,5 +1,5 @@
 -- Memory as a batch's acts leave it: zeros, then parts, then commands; and where a part may be written later.
-use Rattle.std.proofs.Common.{◌≡◌, ℕ, zero, suc, ◌+◌, ◌-◌, ◌<◌, ◌≤◌, Bool, true, false, cond, ◌||◌, List, [], ◌∷◌}
+use Rattle.std.proofs.Common.{◌≡◌, ℕ, zero, suc, ◌+◌, ◌-◌, ◌<◌, ◌≤◌, true, false, cond, List, [], ◌∷◌}
 use Rattle.std.proofs.Common.{◌++◌, length, replicate, refl, sym, ap, ◌∙◌, subst, inl, inr, arith}
 use Rattle.std.specs.List.{AllByRecursion}
 use Rattle.std.proofs.lemmas.Bool.{cases_Bool, cases_lt, both_ways, or_cases}
@@ -9,7 +9,7 @@ use Rattle.vk_types.specs.declared.touch.Touch.{Touch}
 use Rattle.vk_types.specs.Memory.{Memory, range, covers, put, number_at}
 use Rattle.vk_types.specs.Hazards.{touches, host_write_touch, is_touched, is_written, lists_conflict}
 use Rattle.vk_types.specs.Effects.{Meaning, Act, Host_write, Device, act_effect, effect}
-use Rattle.vk_types.proofs.Local.{covered, covered_block, covered_from, covered_to, common, written_touched, exchange}
+use Rattle.vk_types.proofs.Local.{covered, covered_block, covered_from, common, written_touched, exchange}
 use Rattle.vk_types.proofs.Acts.{effect_local, act_local}
 use Rattle.core_model.specs.Batching.{Written, Made, make_write}
 use Rattle.core_model.specs.BatchActs.{zeroed, part_acts, command_acts, run_acts}

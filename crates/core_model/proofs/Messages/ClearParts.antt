@@ -1,5 +1,5 @@
 -- A part of a batch shares no byte with commands of messages before it, where no message since then took the block.
-use Rattle.std.proofs.Common.{◌≡◌, ℕ, suc, ◌+◌, Bool, true, false, cond, ◌||◌, ◌==◌, List, [], ◌∷◌, ◌++◌, length}
+use Rattle.std.proofs.Common.{◌≡◌, ℕ, suc, ◌+◌, Bool, true, false, cond, ◌==◌, List, [], ◌∷◌, ◌++◌, length}
 use Rattle.std.proofs.Common.{refl, sym, ap, ◌∙◌, subst, inl, inr, Option, Some, None, append_assoc, append-nil}
 use Rattle.std.specs.List.{AllByRecursion}
 use Rattle.std.proofs.lemmas.Bool.{cases_Bool, eqb-true, eq-eqb, both_ways}
@@ -8,9 +8,8 @@ use Rattle.dx_types.specs.declared.range.Range.{Range}
 use Rattle.vk_types.specs.declared.command.Cond.{Cond}
 use Rattle.vk_types.specs.declared.command.Command as c
 use Rattle.vk_types.specs.declared.message.Placed.{Placed}
-use Rattle.vk_types.specs.Memory.{Memory, range, zeros, or_zero}
+use Rattle.vk_types.specs.Memory.{range, or_zero}
 use Rattle.vk_types.specs.Hazards.{touches, is_touched}
-use Rattle.vk_types.specs.Effects.{Meaning}
 use Rattle.vk_types.proofs.Local.{covered_block, covered_from, covered_to}
 use Rattle.base_lemmas.proofs.Lists.{all_append, all_map}
 use Rattle.core_model.specs.Script.{Play, Create, Discard, No_overwrite, Stage, Command, Destroy, Create_shader}
@@ -32,7 +31,7 @@ use Rattle.core_model.proofs.Blocks.BoundRanges.{stays_bound}
 use Rattle.core_model.proofs.Messages.Placements.{GivesTo, GivesLine, line_parts}
 use Rattle.core_model.proofs.Messages.Succeeding.{no_blocks}
 use Rattle.core_model.proofs.Messages.MadeLines.{made_blocks}
-use Rattle.core_model.proofs.Messages.HeadLines.{chunks_of, heads_append, line_blocks, LastOf, last_of}
+use Rattle.core_model.proofs.Messages.HeadLines.{chunks_of, heads_append, line_blocks, last_of}
 use Rattle.core_model.proofs.Messages.UsedBlocks.{Lives, item_lives, next_state, next_place, lives_before}
 use Rattle.core_model.proofs.Messages.HeldBlocks.{takes_more, none_front}
 use Rattle.core_model.proofs.Messages.BatchMemory.{Spares, spared}

@@ -1,6 +1,6 @@
 -- A device holds a block from the message that takes it to the one that gives it up, and a page for its one message;
 -- so it has what messages use that it did not complete.
-use Rattle.std.proofs.Common.{◌≡◌, ℕ, zero, suc, ◌+◌, ◌≤◌, Bool, true, false, cond, not, ◌&&◌, ◌||◌, ◌==◌, List, []}
+use Rattle.std.proofs.Common.{◌≡◌, ℕ, zero, suc, ◌≤◌, Bool, true, false, cond, not, ◌&&◌, ◌||◌, ◌==◌, List, []}
 use Rattle.std.proofs.Common.{◌∷◌}
 use Rattle.std.proofs.Common.{◌++◌, length, take, drop, refl, sym, ap, ◌∙◌, subst, inl, inr, ◌⊎◌, Option, Some, None}
 use Rattle.std.proofs.Common.{arith}
@@ -18,13 +18,13 @@ use Rattle.core_model.specs.Renaming.{BlockMap}
 use Rattle.core_model.specs.Owners.{is_block}
 use Rattle.core_model.specs.Lawful.{IsLawful}
 use Rattle.core_model.specs.Succession.{Head, Log, PlacesPlay, takes, stages_in, all_places, places_in}
-use Rattle.core_model.specs.Spine.{Succeeds, made_of, gives_up, MayUse, IsHeldBy, has_place, held_done, holds_block}
+use Rattle.core_model.specs.Spine.{Succeeds, made_of, gives_up, MayUse, has_place, held_done, holds_block}
 use Rattle.core_model.proofs.Steps.Binding.{or_left, or_right}
 use Rattle.core_model.proofs.Steps.Destroying.{found}
 use Rattle.core_model.proofs.Messages.Placements.{GivesTo}
-use Rattle.core_model.proofs.Messages.HeadLines.{LastOf, last_of}
+use Rattle.core_model.proofs.Messages.HeadLines.{last_of}
 use Rattle.core_model.proofs.Messages.UsedBlocks.{message_uses}
-use Rattle.core_model.proofs.Messages.HeldBlocks.{IsApart, Holds, takes_more, taken_strange, taken_anew, holds_before}
+use Rattle.core_model.proofs.Messages.HeldBlocks.{IsApart, takes_more, taken_strange, taken_anew, holds_before}
 
 -- What the items of a message give up -------------------------------------------------------------------------------
 
@@ -293,7 +293,7 @@ behind_done b (y ∷ front) x back zero was h l =
 behind_done b (y ∷ front) x back (suc n) was h l = behind_done b front x back n
     ((was || takes b y.placed) && not (gives_up b y.placed)) h (omega (arith, l))
 
-fewer_heads : (log : Log) (front back : List Head) → Succeeds log (front ++ back) → Succeeds log front
+pub fewer_heads : (log : Log) (front back : List Head) → Succeeds log (front ++ back) → Succeeds log front
 fewer_heads log front back s f y g e = s f y (g ++ back) (ap (λ l. l ++ back) e ∙ append_assoc f (y ∷ g) back)
 
 pub used_held : (log : Log) (front : List Head) (h : Head) (back : List Head) → Succeeds log (front ++ h ∷ back)

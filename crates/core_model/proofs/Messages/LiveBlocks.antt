@@ -1,42 +1,9 @@
 -- Live buffers are those that have a block.
-use Rattle.std.proofs.Common.{◌≡◌, ℕ, suc, ◌+◌, ◌<◌, Bool, true, false, cond, ◌==◌, List, [], ◌∷◌, ◌++◌, map, length}
-use Rattle.std.proofs.Common.{refl, sym, ap, ◌∙◌, subst, inl, inr, Option, Some, None, arith, append_assoc}
-use Rattle.std.proofs.Common.{append-nil}
-use Rattle.std.specs.List.{AllByRecursion}
-use Rattle.std.proofs.lemmas.Bool.{cases_Bool, eqb-true, eq-eqb}
-use Rattle.std.proofs.lemmas.List.Folds.{list_any-append}
-use Rattle.dx_types.specs.declared.range.Range.{Range}
-use Rattle.vk_types.specs.declared.command.Work.TheVariants as work
-use Rattle.vk_types.specs.declared.command.Command as c
-use Rattle.vk_types.specs.declared.message.Placed.{Placed}
-use Rattle.vk_types.specs.declared.op.Barrier.{Barrier}
-use Rattle.vk_types.specs.declared.touch.Touch.{Touch}
-use Rattle.vk_types.specs.Memory.{covers, or_zero}
-use Rattle.vk_types.specs.Hazards.{touches, work_touches, cond_touches, is_touched}
-use Rattle.vk_types.specs.Effects.{Meaning}
-use Rattle.vk_types.proofs.Local.{covered}
-use Rattle.base_lemmas.proofs.Lists.{all_append}
-use Rattle.core_model.specs.Script.{Play, Create, Discard, No_overwrite, Stage, Command, Destroy, Create_shader}
-use Rattle.core_model.specs.Script.{Mark_query, Set_state, Turn, Refused, Passed, Flushed, Asked, Item, Script}
-use Rattle.core_model.specs.Script.{InOrder, at_start, in_order, turn_in_order, play_in_order, updated}
-use Rattle.core_model.specs.Chunking.{chunk_turns, joined}
-use Rattle.core_model.specs.Renaming.{BlockMap, cond_on, range_on}
-use Rattle.core_model.specs.CoreState.{Segment}
-use Rattle.core_model.specs.Owners.{is_block}
-use Rattle.core_model.specs.Batching.{Made, next_chunk, add_command, give_block, make_write, make_staged, block_range}
-use Rattle.core_model.specs.Batching.{make_play, make_turns}
-use Rattle.core_model.specs.Lawful.{IsLawful, play_touches, target_touches}
-use Rattle.core_model.specs.Succession.{Head, Log, PlacesPlay, takes, stages_in, is_staged_in}
-use Rattle.core_model.specs.Spine.{Succeeds, made_of, MayUse}
-use Rattle.core_model.proofs.Steps.Binding.{or_left, or_right}
-use Rattle.core_model.proofs.Steps.Turning.{in_order-append}
-use Rattle.core_model.proofs.Steps.Uses.{touch_on, touches_on, conds_on, bound_fits}
-use Rattle.core_model.proofs.Listing.Touched.{touched_back}
-use Rattle.core_model.proofs.Messages.Placements.{GivesTo, GivesLine}
-use Rattle.core_model.proofs.Messages.Succeeding.{no_blocks}
-use Rattle.core_model.proofs.Messages.MadeLines.{made_blocks}
-use Rattle.core_model.proofs.Messages.HeadLines.{chunks_of, LastOf, last_of}
-use Rattle.core_model.specs.Invariant.{turns_of}
+use Rattle.std.proofs.Common.{◌≡◌, ℕ, Bool, true, false, cond, ◌==◌}
+use Rattle.std.proofs.Common.{sym, ap, ◌∙◌, inl, inr, Some, None}
+use Rattle.std.proofs.lemmas.Bool.{cases_Bool, eqb-true}
+use Rattle.core_model.specs.Script.{updated}
+use Rattle.core_model.specs.Renaming.{BlockMap}
 
 -- Live buffers are those that have a block --------------------------------------------------------------------------
 

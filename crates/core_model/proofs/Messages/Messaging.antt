@@ -102,7 +102,8 @@ module _ (log : Log) (reading : Reading) (core : Core) (k : Kept log.meaning rea
       ap (λ l. l ++ m.placed ∷ []) (ap (map (λ h. h.placed)) h ∙ heads_placed [] front)
       ∙ ap (λ p. places_of front ++ p ∷ []) (ap (λ m. m.placed) g) ∙ sym (places_of_append front (s ∷ []))
 
-  pub follows : (before : List Head) (m : Head) → before ≡ heads front → m ≡ head_behind front s → FollowsHead log before m
+  pub follows : (before : List Head) (m : Head) → before ≡ heads front → m ≡ head_behind front s
+      → FollowsHead log before m
   follows before m h g = subst (FollowsHead log before) (sym g)
       (follows_head log.script front s back line log refl before h)
 

@@ -80,7 +80,7 @@ among_all P n (x ∷ xs) h e = elim (or_cases (x == n) (is_among n xs) e)
     [ inl t ↦ subst P (eqb-true x n t) h.0 | inr t ↦ among_all P n xs h.1 t ]
 
 -- what holds of those that are named holds of all
-once_all : (P : ℕ → Type 0) (seen xs : List ℕ) → AllByRecursion P seen → AllByRecursion P (once seen xs)
+pub once_all : (P : ℕ → Type 0) (seen xs : List ℕ) → AllByRecursion P seen → AllByRecursion P (once seen xs)
     → AllByRecursion P xs
 once_all P seen [] h k = tt
 once_all P seen (x ∷ xs) h k = by (λ k. once_all P seen xs h k) (λ y k. once_all P (x ∷ seen) xs (y, h) k)
@@ -92,7 +92,7 @@ once_all P seen (x ∷ xs) h k = by (λ k. once_all P seen xs h k) (λ y k. once
     by old new true e k = (among_all P x seen h e, old k)
     by old new false e k = (k.0, new k.0 k.1)
 
-all_of_map : {A B : Type 0} (f : A → B) (P : B → Type 0) (xs : List A) → AllByRecursion P (map f xs)
+pub all_of_map : {A B : Type 0} (f : A → B) (P : B → Type 0) (xs : List A) → AllByRecursion P (map f xs)
     → AllByRecursion (λ x. P (f x)) xs
 all_of_map f P [] h = tt
 all_of_map f P (x ∷ xs) h = (h.0, all_of_map f P xs h.1)

@@ -1,5 +1,5 @@
 -- A batch's acts in order keep what stands for the buffers: over its items, and from message to message.
-use Rattle.std.proofs.Common.{◌≡◌, ℕ, zero, suc, ◌+◌, ◌<◌, Bool, true, false, cond, ◌||◌, ◌==◌, List, [], ◌∷◌, ◌++◌}
+use Rattle.std.proofs.Common.{◌≡◌, ℕ, suc, Bool, true, false, List, [], ◌∷◌, ◌++◌}
 use Rattle.std.proofs.Common.{map, length, take, refl, sym, ap, ◌∙◌, subst, inl, inr, Option, Some, None, arith}
 use Rattle.std.proofs.Common.{append_assoc, append-nil, length-append}
 use Rattle.std.specs.List.{AllByRecursion}
@@ -11,11 +11,11 @@ use Rattle.vk_types.specs.Memory.{Memory, zeros, meets}
 use Rattle.vk_types.specs.Hazards.{touches, is_touched}
 use Rattle.base_lemmas.specs.Lists.{Pairwise}
 use Rattle.base_lemmas.proofs.Lists.{all_map}
-use Rattle.core_model.specs.Script.{Play, Turn, Refused, Passed, Flushed, Asked, Item, Script, InOrder, at_start}
+use Rattle.core_model.specs.Script.{Play, Turn, Refused, Passed, Flushed, Asked, Item, InOrder, at_start}
 use Rattle.core_model.specs.Script.{in_order, turn_in_order, play_in_order}
 use Rattle.core_model.specs.Chunking.{chunks, chunk_turns, joined, after_chunk}
 use Rattle.core_model.specs.Renaming.{BlockMap}
-use Rattle.core_model.specs.CoreState.{Segment, somes}
+use Rattle.core_model.specs.CoreState.{somes}
 use Rattle.core_model.specs.Owners.{is_block, in_ranges}
 use Rattle.core_model.specs.Batching.{Made, next_chunk, make_play, make_turns}
 use Rattle.core_model.specs.BatchActs.{zeroed, part_acts, command_acts, batch_acts, run_acts}
@@ -35,8 +35,8 @@ use Rattle.core_model.proofs.Messages.UsedBlocks.{lives_before}
 use Rattle.core_model.proofs.Messages.HeldBlocks.{Holds, takes_more, offered_all, play_holds, taken_strange}
 use Rattle.core_model.proofs.Messages.HeldBlocks.{holds_before}
 use Rattle.core_model.proofs.Messages.BatchMemory.{run_append, all_zero, others_stay, left_in}
-use Rattle.core_model.proofs.Messages.StandingItems.{drop_staged, at_past, memory, Own, so_far, IsBoundIn, Runs}
-use Rattle.core_model.proofs.Messages.StandingItems.{ClearOf, ToCome}
+use Rattle.core_model.proofs.Messages.StandingItems.{drop_staged, memory, Own, so_far, IsBoundIn, Runs}
+use Rattle.core_model.proofs.Messages.StandingItems.{ToCome}
 use Rattle.core_model.proofs.Messages.StandingStages.{item_done}
 use Rattle.core_model.proofs.Messages.HeadStates.{take_first, take_more, length_of_chunks, joined_more}
 

@@ -1,48 +1,44 @@
 -- One item of a batch: the memory that its acts leave stands for the buffers behind it, if it did before it.
-use Rattle.std.proofs.Common.{◌≡◌, ℕ, suc, ◌+◌, ◌-◌, ◌<◌, ◌≤◌, Bool, true, false, cond, ◌&&◌, ◌||◌, ◌==◌, nat_lt}
+use Rattle.std.proofs.Common.{◌≡◌, ℕ, suc, ◌+◌, ◌-◌, ◌<◌, Bool, true, false, cond, ◌==◌}
 use Rattle.std.proofs.Common.{List, [], ◌∷◌, ◌++◌, map, length, replicate, refl, sym, ap, ◌∙◌, subst, inl, inr}
 use Rattle.std.proofs.Common.{Option, Some, None, arith, append_assoc}
-use Rattle.std.specs.List.{list_any, AllByRecursion}
-use Rattle.std.proofs.lemmas.Bool.{cases_Bool, cases_lt, eqb-true, eq-eqb, both_ways, or_cases, ltb-true, lt-ltb}
+use Rattle.std.specs.List.{AllByRecursion}
+use Rattle.std.proofs.lemmas.Bool.{cases_Bool, eqb-true, both_ways}
 use Rattle.std.proofs.lemmas.List.Folds.{list_any-append}
 use Rattle.dx_types.specs.declared.range.Range.{Range}
 use Rattle.vk_types.specs.declared.command.Work.{Work}
-use Rattle.vk_types.specs.declared.command.Work.TheVariants as work
 use Rattle.vk_types.specs.declared.command.Cond.{Cond}
 use Rattle.vk_types.specs.declared.command.Command as c
 use Rattle.vk_types.specs.declared.message.Placed.{Placed}
 use Rattle.vk_types.specs.declared.touch.Touch.{Touch}
-use Rattle.vk_types.specs.Memory.{Memory, range, covers, meets, put, byte_of, number_at, or_zero}
+use Rattle.vk_types.specs.Memory.{Memory, range, meets, put, number_at}
 use Rattle.vk_types.specs.Hazards.{touches, work_touches, cond_touches, is_touched}
-use Rattle.vk_types.specs.Effects.{Meaning, is_skipped, work_effect, effect}
-use Rattle.vk_types.proofs.Local.{covered, covered_block, covered_from, covered_to, meet_at}
+use Rattle.vk_types.specs.Effects.{is_skipped, work_effect}
+use Rattle.vk_types.proofs.Local.{covered, covered_block}
 use Rattle.base_lemmas.specs.Lists.{Pairwise}
 use Rattle.base_lemmas.proofs.Lists.{all_append, all_map}
-use Rattle.core_model.specs.Script.{Play, Create, Discard, No_overwrite, Stage, Command, Destroy, Create_shader}
-use Rattle.core_model.specs.Script.{Mark_query, Set_state, Turn, Item, Script, InOrder, at_start, in_order}
-use Rattle.core_model.specs.Script.{play_in_order, updated, padded, put_bytes, staged_in_order}
-use Rattle.core_model.specs.Renaming.{BlockMap, block_of, range_on, work_on, cond_on}
+use Rattle.core_model.specs.Script.{Play, Command}
+use Rattle.core_model.specs.Script.{Turn, Item, InOrder, at_start, in_order}
+use Rattle.core_model.specs.Script.{play_in_order, updated}
+use Rattle.core_model.specs.Renaming.{BlockMap, work_on, cond_on}
 use Rattle.core_model.specs.CoreState.{somes}
 use Rattle.core_model.specs.Owners.{is_block, in_ranges}
 use Rattle.core_model.specs.Adding.{length_of}
-use Rattle.core_model.specs.Batching.{Made, give_block, make_write, make_play, make_staged, make_command, block_range}
-use Rattle.core_model.specs.Lawful.{Fits, IsLawful, resets, is_bound, target_touches}
-use Rattle.core_model.specs.Succession.{Head, Log, PlacesPlay, takes, stages_in, is_staged_in, all_places}
-use Rattle.core_model.specs.Succession.{staged_range_of, staged_ranges, lengths_of, taken_lengths, places_in}
+use Rattle.core_model.specs.Batching.{Made, give_block, make_write, make_command, block_range}
+use Rattle.core_model.specs.Lawful.{IsLawful, resets, is_bound}
+use Rattle.core_model.specs.Succession.{Head, Log, takes, stages_in, is_staged_in, all_places}
+use Rattle.core_model.specs.Succession.{staged_ranges, lengths_of, taken_lengths, places_in}
 use Rattle.core_model.specs.Spine.{Succeeds, MayUse}
-use Rattle.core_model.proofs.Steps.Alike.{Has, skip_alike, put_alike, work_alike}
+use Rattle.core_model.proofs.Steps.Alike.{Has, skip_alike, work_alike}
 use Rattle.core_model.proofs.Steps.Binding.{or_left, or_right}
 use Rattle.core_model.proofs.Listing.Touched.{touched_front, touched_back}
 use Rattle.core_model.proofs.Steps.Creating.{size_fits}
-use Rattle.core_model.proofs.Steps.Destroying.{found}
 use Rattle.core_model.proofs.Steps.Discarding.{elsewhere}
-use Rattle.core_model.proofs.Steps.Overwriting.{empty_put}
-use Rattle.core_model.proofs.Steps.Padding.{padded_at, past_end}
-use Rattle.core_model.proofs.Steps.Uses.{touch_on, touches_on, conds_on, touched_buffer, bound_fits}
-use Rattle.core_model.proofs.Blocks.BoundRanges.{stays_bound, is_bound_last}
+use Rattle.core_model.proofs.Steps.Uses.{touch_on, touches_on, touched_buffer, bound_fits}
+use Rattle.core_model.proofs.Blocks.BoundRanges.{stays_bound}
 use Rattle.core_model.proofs.Messages.UsedBlocks.{Lives, UsesAll, live_touches, on_blocks}
 use Rattle.core_model.proofs.Messages.HeldBlocks.{Holds, takes_more, taken_strange, taken_anew}
-use Rattle.core_model.proofs.Messages.BatchMemory.{put_elsewhere, fresh_put, touched_own, not_touched, Spares, spared}
+use Rattle.core_model.proofs.Messages.BatchMemory.{put_elsewhere, fresh_put, touched_own, Spares, spared}
 use Rattle.core_model.proofs.Messages.BatchMemory.{AllZero, left_in, wrote, commanded, still_there}
 pub use Rattle.core_model.proofs.Messages.StagedRanges.{drop_staged, met_by, write_blocks, write_listed}
 use Rattle.core_model.proofs.Messages.StagedRanges.{staged_block, other_blocks}

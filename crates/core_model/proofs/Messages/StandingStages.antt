@@ -4,31 +4,30 @@ use Rattle.std.proofs.Common.{◌∷◌, ◌++◌, map, length, replicate, refl,
 use Rattle.std.proofs.Common.{None, arith, append_assoc}
 use Rattle.std.specs.List.{AllByRecursion}
 use Rattle.std.proofs.lemmas.Bool.{cases_Bool, cases_lt, eqb-true, eq-eqb, both_ways, or_cases, ltb-true, lt-ltb}
-use Rattle.std.proofs.lemmas.List.Folds.{list_any-append}
 use Rattle.dx_types.specs.declared.range.Range.{Range}
 use Rattle.vk_types.specs.declared.command.Work.TheVariants as work
 use Rattle.vk_types.specs.declared.command.Cond.{Cond}
 use Rattle.vk_types.specs.declared.command.Command as c
 use Rattle.vk_types.specs.declared.message.Placed.{Placed}
-use Rattle.vk_types.specs.declared.touch.Touch.{Touch}
 use Rattle.vk_types.specs.Memory.{Memory, range, covers, meets, put, byte_of, number_at, or_zero}
 use Rattle.vk_types.specs.Hazards.{touches, work_touches, cond_touches, is_touched}
-use Rattle.vk_types.specs.Effects.{Meaning, is_skipped, effect}
+use Rattle.vk_types.specs.Effects.{is_skipped, effect}
 use Rattle.vk_types.proofs.Local.{covered, covered_block, covered_from, covered_to}
 use Rattle.base_lemmas.specs.Lists.{Pairwise}
 use Rattle.base_lemmas.proofs.Lists.{all_append, all_map}
 use Rattle.core_model.specs.Script.{Play, Create, Discard, No_overwrite, Stage, Command, Destroy, Create_shader}
-use Rattle.core_model.specs.Script.{Mark_query, Set_state, Turn, Item, Script, play_in_order, updated, padded}
+use Rattle.core_model.specs.Script.{Mark_query, Set_state, Turn, Item, play_in_order, updated, padded}
 use Rattle.core_model.specs.Script.{staged_in_order}
-use Rattle.core_model.specs.Renaming.{BlockMap, block_of, range_on, work_on, cond_on}
-use Rattle.core_model.specs.Batching.{Made, give_block, block_range, make_write, make_play, make_staged, make_command, make_staging}
+use Rattle.core_model.specs.Renaming.{BlockMap, block_of, range_on, cond_on}
+use Rattle.core_model.specs.Batching.{Made, give_block, block_range, make_write, make_play, make_staged}
+use Rattle.core_model.specs.Batching.{make_command}
 use Rattle.core_model.specs.Lawful.{IsLawful, resets, is_bound, target_touches}
-use Rattle.core_model.specs.Succession.{Head, Log, PlacesPlay, takes, all_places, staged_range_of, staged_ranges}
-use Rattle.core_model.specs.Succession.{lengths_of, places_in}
+use Rattle.core_model.specs.Succession.{Head, Log, PlacesPlay, takes, staged_range_of, staged_ranges}
+use Rattle.core_model.specs.Succession.{lengths_of}
 use Rattle.core_model.specs.BatchActs.{part_acts, command_acts, run_acts}
 use Rattle.core_model.specs.Spine.{Succeeds}
 use Rattle.core_model.proofs.Steps.Alike.{skip_alike, put_alike}
-use Rattle.core_model.proofs.Steps.Binding.{or_left, or_right}
+use Rattle.core_model.proofs.Steps.Binding.{or_left}
 use Rattle.core_model.proofs.Listing.Touched.{touched_back}
 use Rattle.core_model.proofs.Steps.Destroying.{found}
 use Rattle.core_model.proofs.Steps.Overwriting.{empty_put}
@@ -37,7 +36,7 @@ use Rattle.core_model.proofs.Steps.Uses.{touch_on, conds_on}
 use Rattle.core_model.proofs.Messages.UsedBlocks.{live_touches}
 use Rattle.core_model.proofs.Messages.BatchMemory.{put_elsewhere, Spares, spared, wrote, commanded}
 use Rattle.core_model.proofs.Messages.StandingItems.{drop_staged, met_by, write_blocks, write_listed, at_past, memory}
-use Rattle.core_model.proofs.Messages.StandingItems.{so_far, IsBoundIn, Runs, ClearOf, ToCome, turn, AtPlace, Done}
+use Rattle.core_model.proofs.Messages.StandingItems.{so_far, IsBoundIn, Runs, ClearOf, ToCome, Done}
 use Rattle.core_model.proofs.Messages.StandingItems.{with_staging, not_page, old_bound, old_clear, no_zeros, quiet}
 use Rattle.core_model.proofs.Messages.StandingItems.{taken_done, has, on_live, clear_of, now_bound, command_done}
 

@@ -1,31 +1,20 @@
 -- What a turn adds to commands and marks of queries, however its item is played.
-use Rattle.std.proofs.Common.{◌≡◌, ℕ, suc, ◌+◌, ◌<◌, ◌≤◌, Bool, true, false, cond, max, nat_le, List, [], ◌∷◌, ◌++◌}
-use Rattle.std.proofs.Common.{length, map, refl, sym, ap, ◌∙◌, subst, inl, inr, Option, Some, None, arith, append-nil}
-use Rattle.std.specs.List.{AllByRecursion}
+use Rattle.std.proofs.Common.{ℕ, ◌+◌, Bool, List, [], ◌∷◌}
+use Rattle.std.proofs.Common.{length, refl, sym, subst, inl, inr, Option, Some, None, arith, append-nil}
 use Rattle.dx_types.specs.declared.range.Range.{Range}
-use Rattle.vk_types.specs.declared.message.QueryMark.{QueryMark}
 use Rattle.vk_types.specs.declared.command.Work.TheVariants as work
-use Rattle.vk_types.specs.declared.op.VkOp.TheVariants as op
-use Rattle.base_lemmas.specs.Lists.{numbers_from}
 use Rattle.vk_types.specs.Memory.{range}
-use Rattle.vk_types.specs.Effects.{Act, Host_write, Device, Host_read}
-use Rattle.vk_types.specs.Entries.{Entry}
-use Rattle.vk_types.specs.declared.command.Command as c
-use Rattle.vk_types.specs.declared.op.Barrier.{Barrier}
-use Rattle.base_lemmas.proofs.Lists.{all_front, all_back, all_append}
 use Rattle.core_model.specs.Script.{Play, Create, Discard, No_overwrite, Stage, Command, Destroy, Create_shader}
 use Rattle.core_model.specs.Script.{Mark_query, Set_state, Ask, Bytes, Count, Constant, Turn, Refused, Passed}
 use Rattle.core_model.specs.Script.{Flushed, Asked, Item, Script, padded}
-use Rattle.core_model.specs.CoreState.{entries, Core, later, taken_count, open_number}
+use Rattle.core_model.specs.CoreState.{Core, open_number}
 use Rattle.core_model.specs.Readings.{Reading}
 use Rattle.core_model.specs.Renaming.{block_of, range_on, work_on, cond_on}
-use Rattle.core_model.specs.Adding.{with_turn, with_write, fenced, gives_block, with_command, new_command}
+use Rattle.core_model.specs.Adding.{with_turn, fenced, gives_block, new_command}
 use Rattle.core_model.specs.Adding.{staged_range, with_page, length_of, retired_by}
 use Rattle.core_model.specs.Owners.{retired}
-use Rattle.core_model.specs.Playing.{HasBlock}
-use Rattle.core_model.specs.AppActs.{with_read, answer, act_commands, device_commands, TakesTurn}
-use Rattle.core_model.specs.Queries.{commands_by, turn_marks, act_is_above, command_numbers}
-use Rattle.core_model.proofs.Steps.Giving.{has_parts}
+use Rattle.core_model.specs.AppActs.{answer, TakesTurn}
+use Rattle.core_model.specs.Queries.{commands_by, turn_marks, command_numbers}
 pub use Rattle.core_model.proofs.Queries.QueryParts.{Adds}
 use Rattle.core_model.proofs.Queries.QueryParts.{then_same, same_rest, rest_adds, turn_adds, same_write, same_fenced}
 use Rattle.core_model.proofs.Queries.QueryParts.{same_read, same_block, command_adds}

@@ -1,18 +1,17 @@
 -- Each reply with bytes has its host read, and each host read its reply, in every state that steps reach.
-use Rattle.std.proofs.Common.{◌≡◌, ℕ, suc, ◌-◌, ◌<◌, ◌≤◌, Bool, true, false, List, [], ◌∷◌, ◌++◌, map, length, refl}
-use Rattle.std.proofs.Common.{sym, ap, ◌∙◌, subst, ◌⊎◌, inl, inr, Option, Some, None, arith, append_assoc, append-nil}
-use Rattle.std.proofs.Common.{length-append}
+use Rattle.std.proofs.Common.{◌≡◌, ℕ, suc, ◌-◌, ◌<◌, Bool, true, false, List, [], ◌∷◌, ◌++◌, map, length, refl}
+use Rattle.std.proofs.Common.{sym, ap, ◌∙◌, subst, inl, inr, Option, Some, None, arith, append-nil}
 use Rattle.std.specs.List.{AllByRecursion}
 use Rattle.dx_types.specs.declared.range.Range.{Range}
 use Rattle.vk_types.specs.declared.op.VkOp.{VkOp}
 use Rattle.vk_types.specs.declared.op.VkOp.TheVariants as op
 use Rattle.base_lemmas.specs.Lists.{numbers_from}
-use Rattle.vk_types.specs.Memory.{zeros, range, or_zero}
-use Rattle.vk_types.specs.Effects.{Meaning, Host_write, Device, Host_read}
-use Rattle.vk_types.specs.Entries.{Entry, run_entries, Counts, counted, next, after_host, after_barrier, after_submit}
-use Rattle.vk_types.specs.Entries.{after_fence, first_of, rest_of, start_counts}
+use Rattle.vk_types.specs.Memory.{zeros, or_zero}
+use Rattle.vk_types.specs.Effects.{Meaning}
+use Rattle.vk_types.specs.Entries.{run_entries}
+use Rattle.vk_types.specs.Entries.{start_counts}
 use Rattle.vk_types.specs.Listing.{written_ranges}
-use Rattle.base_lemmas.proofs.Lists.{all_append, all_map, all_back}
+use Rattle.base_lemmas.proofs.Lists.{all_append, all_map}
 use Rattle.core_model.specs.Script.{Bytes, Count, Constant, Turn, Refused, Passed, Flushed, Asked, Item, Script}
 use Rattle.core_model.specs.Script.{at_start, in_order}
 use Rattle.core_model.specs.Chunking.{is_due}
@@ -20,7 +19,7 @@ use Rattle.core_model.specs.Renaming.{block_of, range_on}
 use Rattle.core_model.specs.CoreState.{Core, start, listed, done, Said, Bytes_said, Value_said, Still_said}
 use Rattle.core_model.specs.CoreState.{Refused_said, End_said}
 use Rattle.core_model.specs.Readings.{Reading}
-use Rattle.core_model.specs.Listed.{plain, plain_entries}
+use Rattle.core_model.specs.Listed.{plain_entries}
 use Rattle.core_model.specs.Adding.{with_turn, with_reply}
 use Rattle.core_model.specs.TakingPosts.{with_fence}
 use Rattle.core_model.specs.AppActs.{is_finished, copied_bytes, with_read, answer, TakesTurn, Acts, used_or_zero}
@@ -33,7 +32,7 @@ use Rattle.core_model.proofs.Steps.Segments.{listed_split}
 use Rattle.core_model.proofs.Runs.LastUses.{is_bare}
 use Rattle.core_model.proofs.Steps.ReadingBack.{map_numbers, right_bytes}
 use Rattle.core_model.proofs.Runs.StepsKeepAll.{posts_kept}
-use Rattle.core_model.proofs.Runs.HostReading.{is_read, is_answer, Grown, still, and_then, says_more, posts_grown}
+use Rattle.core_model.proofs.Runs.HostReading.{is_answer, Grown, still, and_then, says_more, posts_grown}
 use Rattle.core_model.proofs.Runs.HostReading.{fence_grown, play_grown, handed_grown, other_grown}
 pub use Rattle.core_model.proofs.Runs.SaidReads.{Leaves, ReadOf, SaidRight, Answered, read_within}
 use Rattle.core_model.proofs.Runs.SaidReads.{ReadRight, read_last, said_more, right_more, grown_answered}

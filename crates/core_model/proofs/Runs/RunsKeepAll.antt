@@ -7,7 +7,7 @@ use Rattle.vk_types.specs.Effects.{Meaning}
 use Rattle.base_lemmas.proofs.Lists.{all_back}
 use Rattle.core_model.specs.Script.{Ask, Bytes, Count, Constant, Turn, Refused, Passed, Flushed, Asked, Item, Script}
 use Rattle.core_model.specs.Chunking.{is_due}
-use Rattle.core_model.specs.CoreState.{Owner, Unmade, Home, Returning, Spare, Live, Retired, Paged, Dropped, Page}
+use Rattle.core_model.specs.CoreState.{Unmade, Spare, Page}
 use Rattle.core_model.specs.CoreState.{Pool, Core, start, Said, Bytes_said, Value_said, Still_said, Refused_said}
 use Rattle.core_model.specs.CoreState.{End_said}
 use Rattle.core_model.specs.Readings.{Reading, Any_choices}
@@ -15,16 +15,14 @@ use Rattle.core_model.specs.TakingPosts.{with_fence}
 use Rattle.core_model.specs.AppActs.{TakesTurn, Acts}
 use Rattle.core_model.specs.CoreStep.{Event, App, Cs, Pipe, Submit, Accept, Run, Complete, Finish, Come_home}
 use Rattle.core_model.specs.CoreStep.{is_of_app, Step, Chain}
-use Rattle.core_model.specs.Playing.{HasBlock}
 use Rattle.core_model.specs.Placing.{PageChoice, Staged, Stages, On_newest, On_spare, On_new}
 use Rattle.core_model.specs.Stands.{may_touch, IsFree}
 use Rattle.core_model.specs.Lawful.{IsLawful}
-use Rattle.core_model.specs.Invariant.{IsLive, IsAsked, IsRight}
+use Rattle.core_model.specs.Invariant.{IsAsked, IsRight}
 use Rattle.core_model.specs.Kept.{Kept}
 use Rattle.core_model.specs.Queries.{QueriesRight}
 use Rattle.core_model.specs.ClassBlocks.{ClassesRight, HasBlockFor}
 use Rattle.core_model.proofs.Steps.Idle.{free_is_idle, made_is_idle}
-use Rattle.core_model.proofs.Steps.Giving.{IsVacant, vacant_lives, stocked, vacant}
 use Rattle.core_model.proofs.Runs.StepsKeepAll.{posts_kept, hand_over_kept, others_kept, start_kept}
 use Rattle.core_model.proofs.Runs.TurnsKeepAll.{plain_kept, constant_kept, end_kept}
 use Rattle.core_model.proofs.Runs.ItemsKeepAll.{items_kept}
@@ -156,35 +154,9 @@ pub run_kept : (meaning : Meaning) (script : Script) → IsLawful meaning script
 run_kept meaning script lawful schedule new h = let f = run_free meaning script schedule new h in
     reached_kept meaning Any_choices script lawful f.0 new f.1
 
--- Blocks that are taken ---------------------------------------------------------------------------------------------
+-- Pages that are taken ----------------------------------------------------------------------------------------------
 
--- a block that a buffer takes is no live buffer's
-pub taken_strange : (meaning : Meaning) (reading : Reading) (script : Script) → IsLawful meaning script
-    → (old : Core) (buffer block : ℕ) (mid : Core) → Kept meaning reading script old
-    → HasBlock reading script buffer block old mid → (r b : ℕ) → old.blocks r ≡ Some b → block ≡ b → ⊥
-taken_strange meaning reading script lawful old buffer block mid k h r b is same =
-    vacant_lives r (old.owner block) (vacant reading script buffer block old mid h lawful.classes
-    (stocked old k.beside.places)) (subst (λ b. IsLive r (old.owner b)) (sym same) (k.good.live r b is))
-
--- and no command that is not finished touches it
-pub taken_idle : (meaning : Meaning) (reading : Reading) (script : Script) → IsLawful meaning script
-    → (old : Core) (buffer block : ℕ) (mid : Core) → Kept meaning reading script old
-    → HasBlock reading script buffer block old mid → may_touch old block ≡ false
-taken_idle meaning reading script lawful old buffer block mid k h =
-    by (old.owner block) refl (vacant reading script buffer block old mid h lawful.classes
-    (stocked old k.beside.places))
-  where
-    by : (o : Owner) → old.owner block ≡ o → IsVacant o → may_touch old block ≡ false
-    by Unmade e v = made_is_idle meaning reading script old k.good block e
-    by (Home j) e v = free_is_idle meaning reading script old k.good block (subst IsFree (sym e) tt)
-    by (Returning j) e v = absurd v
-    by Spare e v = absurd v
-    by (Live buffer since bound) e v = absurd v
-    by (Retired j since bound) e v = absurd v
-    by (Paged j since bound) e v = absurd v
-    by Dropped e v = absurd v
-
--- nor a page that the open chunk takes: it came back, or is new
+-- no command that is not finished touches a page that the open chunk takes: it came back, or is new
 taken_page : (meaning : Meaning) (reading : Reading) (script : Script) (old : Core)
     → Kept meaning reading script old → (choice : PageChoice) (len : ℕ) (s : Staged) (before after : Pool)
     → Stages choice len s before after

@@ -1,40 +1,25 @@
 -- Host reads and answers, as more is listed, written and said.
-use Rattle.std.proofs.Common.{◌≡◌, ℕ, suc, ◌-◌, ◌<◌, ◌≤◌, Bool, true, false, List, [], ◌∷◌, ◌++◌, map, length, refl}
-use Rattle.std.proofs.Common.{sym, ap, ◌∙◌, subst, ◌⊎◌, inl, inr, Option, Some, None, arith, append_assoc, append-nil}
+use Rattle.std.proofs.Common.{◌≡◌, ℕ, suc, ◌-◌, ◌<◌, ◌≤◌, false, List, [], ◌∷◌, ◌++◌, map, length, refl}
+use Rattle.std.proofs.Common.{sym, ap, ◌∙◌, subst, ◌⊎◌, inl, inr, Option, Some, None, arith, append_assoc}
 use Rattle.std.proofs.Common.{length-append}
 use Rattle.std.specs.List.{AllByRecursion}
 use Rattle.dx_types.specs.declared.range.Range.{Range}
 use Rattle.vk_types.specs.declared.op.VkOp.{VkOp}
 use Rattle.vk_types.specs.declared.op.VkOp.TheVariants as op
 use Rattle.base_lemmas.specs.Lists.{numbers_from}
-use Rattle.vk_types.specs.Memory.{zeros, range, or_zero}
+use Rattle.vk_types.specs.Memory.{zeros, range}
 use Rattle.vk_types.specs.Effects.{Meaning, Host_write, Device, Host_read}
 use Rattle.vk_types.specs.Entries.{Entry, run_entries, Counts, counted, next, after_host, after_barrier, after_submit}
 use Rattle.vk_types.specs.Entries.{after_fence, first_of, rest_of, start_counts}
 use Rattle.vk_types.specs.Listing.{written_ranges}
 use Rattle.base_lemmas.proofs.Lists.{all_append, all_map, all_back}
-use Rattle.core_model.specs.Script.{Bytes, Count, Constant, Turn, Refused, Passed, Flushed, Asked, Item, Script}
-use Rattle.core_model.specs.Script.{at_start, in_order}
-use Rattle.core_model.specs.Chunking.{is_due}
-use Rattle.core_model.specs.Renaming.{block_of, range_on}
-use Rattle.core_model.specs.CoreState.{Core, start, listed, done, Said, Bytes_said, Value_said, Still_said}
+use Rattle.core_model.specs.Script.{Bytes, Script}
+use Rattle.core_model.specs.CoreState.{Core, Said, Bytes_said, Value_said, Still_said}
 use Rattle.core_model.specs.CoreState.{Refused_said, End_said}
-use Rattle.core_model.specs.Readings.{Reading}
 use Rattle.core_model.specs.Listed.{plain, plain_entries}
-use Rattle.core_model.specs.Adding.{with_turn, with_reply}
-use Rattle.core_model.specs.TakingPosts.{with_fence}
-use Rattle.core_model.specs.AppActs.{is_finished, copied_bytes, with_read, answer, TakesTurn, Acts, used_or_zero}
-use Rattle.core_model.specs.CoreStep.{Event, App, Cs, Pipe, Submit, Accept, Run, Complete, Finish, Come_home, Step}
 use Rattle.core_model.specs.HostReads.{bytes_in_order}
-use Rattle.core_model.specs.Lawful.{AsksRightly, IsLawful}
-use Rattle.core_model.specs.Invariant.{IsAsked, listed_acts}
-use Rattle.core_model.specs.Kept.{Kept}
-use Rattle.core_model.proofs.Steps.Segments.{listed_split}
-use Rattle.core_model.proofs.Runs.LastUses.{is_bare}
-use Rattle.core_model.proofs.Steps.ReadingBack.{map_numbers, right_bytes}
-use Rattle.core_model.proofs.Runs.StepsKeepAll.{posts_kept}
-use Rattle.core_model.proofs.Runs.HostReading.{is_read, is_answer, Grown, still, and_then, says_more, posts_grown}
-use Rattle.core_model.proofs.Runs.HostReading.{fence_grown, play_grown, handed_grown, other_grown}
+use Rattle.core_model.specs.Invariant.{IsAsked}
+use Rattle.core_model.proofs.Runs.HostReading.{is_read, is_answer, Grown}
 
 -- The entries of a front of the listing leave the bytes of a range, and the host's bytes for it are there
 pub record Leaves (meaning : Meaning) (contents : List (List ℕ)) (front : List VkOp) (r : Range) (bytes : List ℕ) :

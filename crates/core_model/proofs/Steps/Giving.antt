@@ -1,7 +1,7 @@
 -- A buffer takes a block: one that was not made yet, or one at home. No command of a chunk that is not finished
 -- touches it.
-use Rattle.std.proofs.Common.{◌≡◌, ℕ, suc, ◌+◌, ◌-◌, ◌*◌, ◌<◌, ◌≤◌, Bool, true, false, cond, max, ◌==◌, List, [], ◌∷◌}
-use Rattle.std.proofs.Common.{◌++◌, length, refl, sym, ap, ◌∙◌, subst, inl, inr, Some, None, slice_get, arith}
+use Rattle.std.proofs.Common.{◌≡◌, ℕ, ◌-◌, ◌<◌, ◌≤◌, Bool, true, false, cond, ◌==◌, List, [], ◌∷◌}
+use Rattle.std.proofs.Common.{◌++◌, length, refl, sym, ap, ◌∙◌, subst, inl, inr, Some, arith}
 use Rattle.std.specs.List.{AllByRecursion}
 use Rattle.std.proofs.lemmas.Bool.{both_ways, cases_Bool, eqb-true, eq-eqb}
 use Rattle.dx_types.specs.declared.range.Range.{Range}
@@ -13,26 +13,21 @@ use Rattle.vk_types.specs.Entries.{Entry, run_entries}
 use Rattle.base_lemmas.proofs.Lists.{all_front, all_back, all_map}
 use Rattle.vk_types.proofs.Local.{covered}
 use Rattle.core_model.specs.Script.{Turn, Script, InOrder, updated, at_start, in_order}
-use Rattle.core_model.specs.CoreState.{Segment, Owner, Unmade, Home, Returning, Spare, Live, Retired, Paged, Dropped}
+use Rattle.core_model.specs.CoreState.{Segment, Owner, Live}
 use Rattle.core_model.specs.CoreState.{Board, Pool, Core, later, taken_count, finished_count, open_number}
 use Rattle.core_model.specs.Readings.{Reading}
 use Rattle.core_model.specs.Owners.{nothing_bound}
-use Rattle.core_model.specs.Placing.{BlockChoice, Takes, From_home, New_made}
 use Rattle.core_model.specs.Adding.{has_block, retired_by}
-use Rattle.core_model.specs.Playing.{HasBlock, Own, Of_class}
 use Rattle.core_model.specs.OtherParts.{used_in}
 use Rattle.core_model.specs.Worlds.{empty}
-use Rattle.core_model.specs.Listed.{IsListed, IsCounted}
-use Rattle.core_model.specs.Lawful.{ClassFits}
+use Rattle.core_model.specs.Listed.{IsListed}
 use Rattle.core_model.specs.Invariant.{Allows, IsSince, IsLive, NamesStaging, Totals, Good, listed_acts}
-use Rattle.core_model.specs.Kept.{IsOfBuffer, PlacesRight, Names, Kept}
+use Rattle.core_model.specs.Kept.{Names, Kept}
 use Rattle.core_model.proofs.Listing.Worlds.{world_memory}
-use Rattle.core_model.proofs.Listing.CoreListing.{fence_listed, fence_counted}
 use Rattle.core_model.proofs.Steps.Writing.{with_bytes, written_world, other_bytes, opened_write}
 use Rattle.core_model.proofs.Steps.Opened.{before_open, opened_entries, Opened, opened, opened_turn, opened_owner}
 use Rattle.core_model.proofs.Steps.Opened.{opened_fenced}
 use Rattle.core_model.proofs.Steps.Taking.{left_by, Meets}
-use Rattle.vk_types.specs.declared.op.VkOp.TheVariants as op
 pub use Rattle.core_model.proofs.Steps.VacantBlocks.{IsVacant, vacant_since, vacant_lives, vacant_buffer, stocked}
 pub use Rattle.core_model.proofs.Steps.VacantBlocks.{vacant, own_unmade, has_parts, Fenced, same_fence, more_fence}
 use Rattle.core_model.proofs.Steps.VacantBlocks.{vacant_allows}

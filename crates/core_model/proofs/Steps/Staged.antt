@@ -1,51 +1,23 @@
 -- An item that stages bytes keeps the invariant.
-use Rattle.std.proofs.Common.{◌≡◌, ℕ, suc, ◌+◌, ◌-◌, ◌<◌, ◌≤◌, Bool, true, false, cond, ◌||◌, ◌==◌, nat_lt, List, []}
-use Rattle.std.proofs.Common.{◌∷◌, ◌++◌, length, map, refl, sym, ap, ◌∙◌, subst, inl, inr, Option, Some, None, arith}
-use Rattle.std.specs.List.{AllByRecursion}
-use Rattle.std.proofs.lemmas.Bool.{cases_Bool, or_cases, eqb-true, eq-eqb, ltb-true, cases_lt, lt-ltb}
-use Rattle.std.proofs.lemmas.List.Folds.{list_any-append}
+use Rattle.std.proofs.Common.{◌≡◌, ℕ, ◌+◌, Bool, true, false, cond, List, []}
+use Rattle.std.proofs.Common.{◌∷◌, ◌++◌, length, refl, sym, ap, ◌∙◌, subst, Option, Some, None, arith}
 use Rattle.dx_types.specs.declared.range.Range.{Range}
-use Rattle.vk_types.specs.declared.touch.Touch.{Touch}
 use Rattle.vk_types.specs.declared.command.Cond.{Cond}
-use Rattle.vk_types.specs.declared.command.Work.TheVariants as work
-use Rattle.vk_types.specs.declared.access.Stage.TheVariants as stage
-use Rattle.vk_types.specs.declared.command.Command as c
-use Rattle.vk_types.specs.Memory.{Memory, covers, put, byte_of, number_at}
-use Rattle.vk_types.specs.Hazards.{touch, read_access, touches, cond_touches, is_touched}
-use Rattle.vk_types.specs.Effects.{Meaning, Host_write, is_skipped, invocations}
-use Rattle.vk_types.specs.BarrierCauses.{least_conflict, caused}
-use Rattle.base_lemmas.proofs.Lists.{all_map}
-use Rattle.vk_types.proofs.Local.{covered, covered_block}
-use Rattle.core_model.specs.Script.{Stage, Turn, Item, Script, InOrder, updated, staged_in_order, at_start}
-use Rattle.core_model.specs.Script.{turn_in_order, in_order}
+use Rattle.vk_types.specs.Memory.{Memory, put, number_at}
+use Rattle.vk_types.specs.Effects.{Meaning, is_skipped}
+use Rattle.core_model.specs.Script.{Stage, Turn, Item, Script, staged_in_order}
 use Rattle.core_model.specs.Chunking.{is_due}
-use Rattle.core_model.specs.Renaming.{range_on, cond_on}
-use Rattle.core_model.specs.CoreState.{Owner, Pool, Core, taken_count, finished_count, open_number}
+use Rattle.core_model.specs.CoreState.{Core, taken_count, finished_count, open_number}
 use Rattle.core_model.specs.Readings.{Reading}
-use Rattle.core_model.specs.Owners.{in_ranges, bind_owner}
-use Rattle.core_model.specs.Placing.{Staged}
-use Rattle.core_model.specs.Adding.{has_block, placed_at, add_staging, page_owner, staged_range, new_entry}
-use Rattle.core_model.specs.Adding.{epoch_after, new_command, plays_command}
+use Rattle.core_model.specs.Adding.{placed_at}
 use Rattle.core_model.specs.AppActs.{TakesTurn}
-use Rattle.core_model.specs.Worlds.{empty, world_step}
-use Rattle.core_model.specs.Lawful.{target_touches, Fits, PlaysRightly, IsLawful}
-use Rattle.core_model.specs.Invariant.{Allows, IsSince, IsLive, Totals, Good}
-use Rattle.core_model.specs.Kept.{Names, Kept}
+use Rattle.core_model.specs.Lawful.{PlaysRightly, IsLawful}
+use Rattle.core_model.specs.Invariant.{Good}
+use Rattle.core_model.specs.Kept.{Kept}
 use Rattle.core_model.proofs.Steps.Turning.{turned_good}
-use Rattle.core_model.proofs.Steps.Binding.{still_bound, or_left, or_right, bind_allows, bind_since, bind_live}
-use Rattle.core_model.proofs.Steps.Alike.{Has, skip_alike, put_alike}
-use Rattle.core_model.proofs.Steps.Uses.{touch_on, conds_on, filled_on, touched_buffer, bound_fits, bound_on}
-use Rattle.core_model.proofs.Steps.Uses.{bound_named, live_allows, names_more}
-use Rattle.core_model.proofs.Steps.Padding.{past_end}
-use Rattle.core_model.proofs.Listing.MoreListed.{command_entry}
-use Rattle.core_model.proofs.Steps.Commanding.{commanded_world, opened_command}
-use Rattle.core_model.proofs.Steps.Writing.{with_bytes, written_world, opened_write}
 use Rattle.core_model.proofs.Steps.Overwriting.{empty_put}
-use Rattle.core_model.proofs.Queries.Counting.{totals_more}
-use Rattle.core_model.proofs.Steps.Opened.{before_open, Opened, opened, opened_turn, opened_owner, opened_bound}
-use Rattle.core_model.proofs.Steps.Taking.{left_by, Meets, met, taken_good}
-use Rattle.core_model.proofs.Steps.StagedPages.{IsReady, page_ready, page_old, page_allows, live_of_buffer}
-use Rattle.core_model.proofs.Steps.Staging.{bytes, memory, untargeted_good, targeted_good}
+use Rattle.core_model.proofs.Steps.StagedPages.{page_ready}
+use Rattle.core_model.proofs.Steps.Staging.{memory, untargeted_good, targeted_good}
 
 -- bytes are staged, or none are
 pub stage_good : (meaning : Meaning) (reading : Reading) (script : Script) → IsLawful meaning script

@@ -26,12 +26,10 @@ use Rattle.core_model.specs.Owners.{in_ranges, bind_owner}
 use Rattle.core_model.specs.Placing.{Staged}
 use Rattle.core_model.specs.Adding.{has_block, placed_at, add_staging, page_owner, staged_range, new_entry}
 use Rattle.core_model.specs.Adding.{epoch_after, new_command, plays_command}
-use Rattle.core_model.specs.AppActs.{TakesTurn}
 use Rattle.core_model.specs.Worlds.{empty, world_step}
-use Rattle.core_model.specs.Lawful.{target_touches, Fits, PlaysRightly, IsLawful}
+use Rattle.core_model.specs.Lawful.{target_touches, Fits, IsLawful}
 use Rattle.core_model.specs.Invariant.{Allows, IsSince, IsLive, Totals, Good}
 use Rattle.core_model.specs.Kept.{Names, Kept}
-use Rattle.core_model.proofs.Steps.Turning.{turned_good}
 use Rattle.core_model.proofs.Steps.Binding.{still_bound, or_left, or_right, bind_allows, bind_since, bind_live}
 use Rattle.core_model.proofs.Steps.Alike.{Has, skip_alike, put_alike}
 use Rattle.core_model.proofs.Steps.Uses.{touch_on, conds_on, filled_on, touched_buffer, bound_fits, bound_on}
@@ -40,11 +38,10 @@ use Rattle.core_model.proofs.Steps.Padding.{past_end}
 use Rattle.core_model.proofs.Listing.MoreListed.{command_entry}
 use Rattle.core_model.proofs.Steps.Commanding.{commanded_world, opened_command}
 use Rattle.core_model.proofs.Steps.Writing.{with_bytes, written_world, opened_write}
-use Rattle.core_model.proofs.Steps.Overwriting.{empty_put}
 use Rattle.core_model.proofs.Queries.Counting.{totals_more}
 use Rattle.core_model.proofs.Steps.Opened.{before_open, Opened, opened, opened_turn, opened_owner, opened_bound}
 use Rattle.core_model.proofs.Steps.Taking.{left_by, Meets, met, taken_good}
-use Rattle.core_model.proofs.Steps.StagedPages.{IsReady, page_ready, page_old, page_allows, live_of_buffer}
+use Rattle.core_model.proofs.Steps.StagedPages.{IsReady, page_old, page_allows, live_of_buffer}
 
 -- The item ----------------------------------------------------------------------------------------------------------
 
@@ -143,7 +140,6 @@ module _ (meaning : Meaning) (reading : Reading) (script : Script) (lawful : IsL
       ++ placed_at call item None None (Some source) ∷ []) old.open_chunk.queries in
       opened_owner meaning script _ turned own old.board pool own_keeps own_since
 
-  -- the bytes are written
   abbrev written : Core
   written = with_bytes call source bytes taken
 

@@ -25,7 +25,8 @@ module _ (log : List Issued) (shader : ℕ) (program : Program) (words : List �
     (spells : shader_of (words_by (call_at log shader)) ≡ Some program) (is : IsModuleOf words program) where
   -- the log's meaning is the program's
   left_by : (counts : List ℕ) (slots : SlotWords) (view : ℕ)
-      → (meaning_of log).words shader counts slots view ≡ words_in (dispatched program counts (all_slots slots)).writes view
+      → (meaning_of log).words shader counts slots view ≡ words_in
+      (dispatched program counts (all_slots slots)).writes view
   unfolding ran_dispatch
   left_by counts slots view = ap (λ o. words_in (ran_if o counts (all_slots slots)).slots.writes view) spells
 
@@ -35,7 +36,8 @@ module _ (log : List Issued) (shader : ℕ) (program : Program) (words : List �
   unfolding ran_dispatch
   count_by counts = ap (λ o. (ran_if o counts no_slots).count) spells
 
-  pub has_outcome : (counts : List ℕ) (slots : SlotWords) → is_allowed counts (group_of words) ≡ true → SlotsFit (all_slots slots)
+  pub has_outcome : (counts : List ℕ) (slots : SlotWords) → is_allowed counts (group_of words) ≡ true
+      → SlotsFit (all_slots slots)
       → (left : Slots) × (module_dispatched words counts (all_slots slots) ≡ Some left)
       × ((view : ℕ) → words_in left.writes view ≡ (meaning_of log).words shader counts slots view)
   has_outcome counts slots allowed fit = (
@@ -48,11 +50,13 @@ module _ (log : List Issued) (shader : ℕ) (program : Program) (words : List �
       → (view : ℕ) → view < 8 → (meaning_of log).words shader counts slots view ≡ slots.uav view
   too_large counts slots large view there =
       left_by counts slots view
-      ∙ ap (λ b. words_in (if b then run_all program (invocations counts program.group) (all_slots slots) else all_slots slots).writes view)
+      ∙ ap (λ b. words_in (if b then run_all program (invocations counts program.group) (all_slots slots) else
+      all_slots slots).writes view)
       (ap (is_allowed counts) (sym is.group) ∙ large)
       ∙ listed slots.uav 8 0 view there ∙ ap slots.uav (let z : 0 + view ≡ view = omega arith in z)
 
   pub counts_alike : (counts : List ℕ)
-      → (meaning_of log).count shader counts ≡ cond (is_allowed counts (group_of words)) (volume counts * volume (group_of words)) 0
+      → (meaning_of log).count shader counts ≡ cond (is_allowed counts (group_of words))
+      (volume counts * volume (group_of words)) 0
   counts_alike counts =
       count_by counts ∙ ap (λ g. if is_allowed counts g then volume counts * volume g else 0) (sym is.group)

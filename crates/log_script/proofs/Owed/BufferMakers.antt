@@ -1,5 +1,7 @@
--- The maker of a live buffer is an earlier call that created a buffer of this id and shape, so two live buffers have two.
-use Rattle.std.proofs.Common.{◌≡◌, ℕ, zero, suc, ◌≤◌, Bool, true, false, cond, List, Option, Some, None, refl, sym, ap, ◌∙◌, inl, inr, arith}
+-- The maker of a live buffer is an earlier call that created a buffer of this id and shape, so two live buffers have
+-- two.
+use Rattle.std.proofs.Common.{◌≡◌, ℕ, zero, suc, ◌≤◌, Bool, true, false, cond, List, Option, Some, None, refl, sym}
+use Rattle.std.proofs.Common.{ap, ◌∙◌, inl, inr, arith}
 use Rattle.std.specs.Prelude.{is_some, if◌then◌else◌}
 use Rattle.std.specs.Ordering.{nat_cmp, eq_by_cmp}
 use Rattle.std.proofs.lemmas.Bool.{cases_eq, eq-eqb, ne_eqb}
@@ -40,7 +42,8 @@ one_removed m k q v e = by_test (eq_by_cmp nat_cmp q k) (get m q) (sym (get-remo
     by_test false o f = f
 
 -- the same maker, one call later
-moved : (log : List Issued) (n : ℕ) (past past' : Past) (id : ℕ) (is : Shape) → maker past' id ≡ maker past id → Made log n past id is → Made log (suc n) past' id is
+moved : (log : List Issued) (n : ℕ) (past past' : Past) (id : ℕ) (is : Shape) → maker past' id ≡ maker past id
+    → Made log n past id is → Made log (suc n) past' id is
 moved log n past past' id is e m = record {
   first = omega (arith, e, m.first);
   last = omega (arith, e, m.last);
@@ -49,14 +52,18 @@ moved log n past past' id is e m = record {
 }
 
 made_step : (log : List Issued) (n : ℕ) (b : Buffers) (past : Past) (b' : Buffers) (past' : Past) (ts : List Turn)
-    → Step (suc n) (shape_made log (suc n)) (id_made log (suc n)) b past b' past' ts → AllMade log n b past → AllMade log (suc n) b' past'
-made_step log n b past b' past' ts (inl h) all = λ id is e. moved log n past past' id is (h.makers id) (all id is (sym (ap (λ (m : Buffers). get m id) h.buffers) ∙ e))
+    → Step (suc n) (shape_made log (suc n)) (id_made log (suc n)) b past b' past' ts → AllMade log n b past
+    → AllMade log (suc n) b' past'
+made_step log n b past b' past' ts (inl h) all = λ id is e. moved log n past past' id is (h.makers id)
+    (all id is (sym (ap (λ (m : Buffers). get m id) h.buffers) ∙ e))
 made_step log n b past b' past' ts (inr (inl h)) all = λ id is e.
     let found : get (insert b h.id h.shape) id ≡ Some is = sym (ap (λ (m : Buffers). get m id) h.buffers) ∙ e in
     elim (cases_eq id h.id) [
       | inl p ↦
-          let here : maker past' id ≡ suc n = h.makers id ∙ ap (λ (t : Bool). if t then suc n else maker past id) (eq-eqb h.id id (sym p)) in
-          let same : Some h.shape ≡ Some is = sym (get_same b h.id h.shape) ∙ ap (λ (k : ℕ). get (insert b h.id h.shape) k) (sym p) ∙ found in
+          let here : maker past' id ≡ suc n = h.makers id ∙ ap (λ (t : Bool). if t then suc n else maker past id)
+          (eq-eqb h.id id (sym p)) in
+          let same : Some h.shape ≡ Some is = sym (get_same b h.id h.shape)
+          ∙ ap (λ (k : ℕ). get (insert b h.id h.shape) k) (sym p) ∙ found in
           record {
             first = omega (arith, here);
             last = omega (arith, here);
@@ -64,11 +71,13 @@ made_step log n b past b' past' ts (inr (inl h)) all = λ id is e.
             own = ap (λ (k : ℕ). id_made log k) here ∙ h.own_here ∙ sym p;
           }
       | inr apart ↦
-          let other : maker past' id ≡ maker past id = h.makers id ∙ ap (λ (t : Bool). if t then suc n else maker past id) (ne_eqb h.id id (λ q. apart (sym q))) in
+          let other : maker past' id ≡ maker past id = h.makers id
+          ∙ ap (λ (t : Bool). if t then suc n else maker past id) (ne_eqb h.id id (λ q. apart (sym q))) in
           moved log n past past' id is other (all id is (sym (get_other b h.id h.shape id apart) ∙ found))
     ]
 made_step log n b past b' past' ts (inr (inr h)) all = λ id is e.
-    moved log n past past' id is (h.makers id) (all id is (one_removed b h.id id is (sym (ap (λ (m : Buffers). get m id) h.buffers) ∙ e)))
+    moved log n past past' id is (h.makers id)
+    (all id is (one_removed b h.id id is (sym (ap (λ (m : Buffers). get m id) h.buffers) ∙ e)))
 
 made_none : (log : List Issued) → AllMade log zero (after_calls log zero).objects.buffers (after_calls log zero).past
 unfolding after_calls
@@ -77,7 +86,8 @@ made_none log = λ id is e. absurd (none_some _ is (get-empty Shape id) e)
 pub all_made : (log : List Issued) (n : ℕ) → AllMade log n (after_calls log n).objects.buffers (after_calls log n).past
 all_made log zero = made_none log
 all_made log (suc n) =
-    made_step log n (after_calls log n).objects.buffers (after_calls log n).past (after_calls log (suc n)).objects.buffers (after_calls log (suc n)).past _ (step_at log n) (all_made log n)
+    made_step log n (after_calls log n).objects.buffers (after_calls log n).past
+    (after_calls log (suc n)).objects.buffers (after_calls log (suc n)).past _ (step_at log n) (all_made log n)
 
 -- live buffers of one maker are one
 pub one_maker : (log : List Issued) (n : ℕ) (b : Buffers) (past : Past) → AllMade log n b past → (id other : ℕ)

@@ -1,5 +1,6 @@
 -- What each call does to the live buffers, to their makers, and by its turns: nothing, or it creates or destroys one.
-use Rattle.std.proofs.Common.{◌≡◌, ℕ, suc, Bool, true, false, List, [], ◌∷◌, length, Option, Some, None, refl, sym, ap, ◌∙◌, inl, inr, ◌⊎◌, append-nil}
+use Rattle.std.proofs.Common.{◌≡◌, ℕ, suc, Bool, true, false, List, [], ◌∷◌, length, Option, Some, None, refl, sym}
+use Rattle.std.proofs.Common.{ap, ◌∙◌, inl, inr, ◌⊎◌, append-nil}
 use Rattle.std.specs.Prelude.{◌==◌, is_some, slice_get, if◌then◌else◌}
 use Rattle.std.specs.List.{list_any, AllByRecursion}
 use Rattle.std.proofs.lemmas.Bool.{not-false}
@@ -20,7 +21,8 @@ use Rattle.d3d_model.specs.Binding.{Bindings, BoundView, Predicate}
 use Rattle.d3d_model.specs.D3dState.{Objects, Numbered, bindings_of, bound_view, calls_of_list}
 use Rattle.d3d_model.specs.Past.{Past, Deed, then_done, makes}
 use Rattle.d3d_model.specs.Stream.{deeds, deeds_of_list, makings}
-use Rattle.d3d_model.specs.Verdict.{place_of, unused_buffer, unused_view, unused_shader, unused_query, known_list, verdict}
+use Rattle.d3d_model.specs.Verdict.{place_of, unused_buffer, unused_view, unused_shader, unused_query, known_list}
+use Rattle.d3d_model.specs.Verdict.{verdict}
 use Rattle.d3d_model.specs.Effect.{played, recorded_on, list_start}
 use Rattle.d3d_model.specs.InOrder.{State, accepted, unless_refused, verdict_in, after_call, after_calls, call_at}
 use Rattle.d3d_model.proofs.Checked.{Passed}
@@ -29,9 +31,11 @@ use Rattle.d3d_model.proofs.Listed.{left_of, own_checks}
 use Rattle.d3d_model.proofs.Limits.{buffer_goes}
 use Rattle.d3d_model.proofs.Pasts.{list_makes_none}
 use Rattle.d3d_model.proofs.Sized.{same_buffers_all}
-use Rattle.core_model.specs.Script.{Play, Create, Discard, No_overwrite, Stage, Command, Destroy, Create_shader, Mark_query, Set_state, Turn, Refused, Passed as Went, Flushed, Asked, Item}
+use Rattle.core_model.specs.Script.{Play, Create, Discard, No_overwrite, Stage, Command, Destroy, Create_shader}
+use Rattle.core_model.specs.Script.{Mark_query, Set_state, Turn, Refused, Passed as Went, Flushed, Asked, Item}
 use Rattle.log_script.specs.Makers.{maker, bytes_from}
-use Rattle.log_script.specs.Plays.{skips, condition, predicated, staged, dispatch, clear, clears, copies, whole, counts_invocations, marks, maps, play_of}
+use Rattle.log_script.specs.Plays.{skips, condition, predicated, staged, dispatch, clear, clears, copies, whole}
+use Rattle.log_script.specs.Plays.{counts_invocations, marks, maps, play_of}
 use Rattle.log_script.specs.Turns.{item_of, list_items, turns_by_place, turns_unless, turns_in, turns_of}
 use Rattle.log_script.specs.LogScript.{shape_by, shape_unless, shape_in, shape_made}
 
@@ -59,42 +63,58 @@ abbrev pub KeepLive : List Turn → Type 0
 KeepLive ts = AllByRecursion (λ t. turn_keeps t ≡ true) ts
 
 predicated_keeps : (past : Past) (p : Predicate) (w : Work) → keeps_live (predicated past p w) ≡ true
-predicated_keeps past p w = elim (skips p) as (λ b. keeps_live (if b then Set_state else Command w (condition past p)) ≡ true) [ true ↦ refl | false ↦ refl ]
+predicated_keeps past p w =
+    elim (skips p) as (λ b. keeps_live (if b then Set_state else Command w (condition past p)) ≡ true)
+    [ true ↦ refl | false ↦ refl ]
 
-staged_keeps : (past : Past) (p : Predicate) (bytes : List ℕ) (target : Range) → keeps_live (staged past p bytes target) ≡ true
+staged_keeps : (past : Past) (p : Predicate) (bytes : List ℕ) (target : Range)
+    → keeps_live (staged past p bytes target) ≡ true
 staged_keeps past p [] target = refl
 staged_keeps past p (b ∷ bs) target =
-    elim (skips p) as (λ t. keeps_live (if t then Stage (b ∷ bs) None None else Stage (b ∷ bs) (Some target) (condition past p)) ≡ true) [ true ↦ refl | false ↦ refl ]
+    elim (skips p) as
+    (λ t. keeps_live (if t then Stage (b ∷ bs) None None else Stage (b ∷ bs) (Some target) (condition past p))
+    ≡ true) [ true ↦ refl | false ↦ refl ]
 
-clears_keeps : (past : Past) (p : Predicate) (v : Option BoundView) (v0 v1 v2 v3 : ℕ) → keeps_live (clears past p v v0 v1 v2 v3) ≡ true
+clears_keeps : (past : Past) (p : Predicate) (v : Option BoundView) (v0 v1 v2 v3 : ℕ)
+    → keeps_live (clears past p v v0 v1 v2 v3) ≡ true
 clears_keeps past p None v0 v1 v2 v3 = refl
 clears_keeps past p (Some v) v0 v1 v2 v3 = predicated_keeps past p (clear past v.shape v0 v1 v2 v3)
 
-copies_keeps : (past : Past) (p : Predicate) (target target_offset source source_offset len : ℕ) → keeps_live (copies past p target target_offset source source_offset len) ≡ true
+copies_keeps : (past : Past) (p : Predicate) (target target_offset source source_offset len : ℕ)
+    → keeps_live (copies past p target target_offset source source_offset len) ≡ true
 copies_keeps past p target target_offset source source_offset len =
     let copy : Work = work.Copy (bytes_from past source source_offset len) (bytes_from past target target_offset len) in
-    elim (len == 0) as (λ b. keeps_live (if b then Set_state else predicated past p copy) ≡ true) [ true ↦ refl | false ↦ predicated_keeps past p copy ]
+    elim (len == 0) as (λ b. keeps_live (if b then Set_state else predicated past p copy) ≡ true)
+    [ true ↦ refl | false ↦ predicated_keeps past p copy ]
 
 marks_keeps : (o : Objects) (query : ℕ) (begins : Bool) → keeps_live (marks o query begins) ≡ true
-marks_keeps o query begins = elim (counts_invocations (get o.queries query)) as (λ b. keeps_live (if b then Mark_query query begins else Set_state) ≡ true) [ true ↦ refl | false ↦ refl ]
+marks_keeps o query begins = elim (counts_invocations (get o.queries query)) as
+    (λ b. keeps_live (if b then Mark_query query begins else Set_state) ≡ true) [ true ↦ refl | false ↦ refl ]
 
 maps_keeps : (past : Past) (res mode offset : ℕ) (bytes : List ℕ) → keeps_live (maps past res mode offset bytes) ≡ true
 maps_keeps past res mode offset bytes =
     let stages : Play = staged past binding.Never bytes (bytes_from past res offset (length bytes)) in
-    elim (mode == 0) as (λ b. keeps_live (if b then Discard (maker past res) offset bytes else if mode == 1 then No_overwrite (maker past res) offset bytes else stages) ≡ true) [
+    elim (mode == 0) as
+    (λ b. keeps_live (if b then Discard (maker past res) offset bytes else if mode == 1 then No_overwrite
+    (maker past res) offset bytes else stages) ≡ true) [
       | true ↦ refl
-      | false ↦ elim (mode == 1) as (λ b. keeps_live (if b then No_overwrite (maker past res) offset bytes else stages) ≡ true) [
-        | true ↦ refl
-        | false ↦ staged_keeps past binding.Never bytes (bytes_from past res offset (length bytes))
-      ]
+      | false ↦ elim (mode == 1) as
+          (λ b. keeps_live (if b then No_overwrite (maker past res) offset bytes else stages) ≡ true) [
+            | true ↦ refl
+            | false ↦ staged_keeps past binding.Never bytes (bytes_from past res offset (length bytes))
+          ]
     ]
 
 play_keeps : (past : Past) (o : Objects) (b : Bindings) (c : Call) → keeps_live (play_of past o b c) ≡ true
 play_keeps past o b (calls.Dispatch x y z) = predicated_keeps past b.predicate (dispatch past o b (groups.Direct x y z))
-play_keeps past o b (calls.DispatchIndirect res offset) = predicated_keeps past b.predicate (dispatch past o b (groups.Indirect (bytes_from past res offset 12)))
-play_keeps past o b (calls.CopyRegion target target_offset source source_offset len) = copies_keeps past b.predicate target target_offset source source_offset len
-play_keeps past o b (calls.Copy target source) = predicated_keeps past b.predicate (work.Copy (whole past o source) (whole past o target))
-play_keeps past o b (calls.Update res offset bytes) = staged_keeps past b.predicate bytes (bytes_from past res offset (length bytes))
+play_keeps past o b (calls.DispatchIndirect res offset) = predicated_keeps past b.predicate
+    (dispatch past o b (groups.Indirect (bytes_from past res offset 12)))
+play_keeps past o b (calls.CopyRegion target target_offset source source_offset len) =
+    copies_keeps past b.predicate target target_offset source source_offset len
+play_keeps past o b (calls.Copy target source) = predicated_keeps past b.predicate
+    (work.Copy (whole past o source) (whole past o target))
+play_keeps past o b (calls.Update res offset bytes) = staged_keeps past b.predicate bytes
+    (bytes_from past res offset (length bytes))
 play_keeps past o b (calls.ClearUav view v0 v1 v2 v3) = clears_keeps past b.predicate (bound_view o view) v0 v1 v2 v3
 play_keeps past o b (calls.Begin query) = marks_keeps o query true
 play_keeps past o b (calls.EndQuery query) = marks_keeps o query false
@@ -108,7 +128,8 @@ list_keeps n past o (c ∷ cs) = (play_keeps past o (bindings_of o 0) c.call, li
 -- ---- makers after more deeds
 
 -- deeds that make no buffer leave each maker
-pub maker_then : (n : ℕ) (past : Past) (ds : List Deed) (res : ℕ) → list_any (makes res) ds ≡ false → maker (then_done n past ds) res ≡ maker past res
+pub maker_then : (n : ℕ) (past : Past) (ds : List Deed) (res : ℕ) → list_any (makes res) ds ≡ false
+    → maker (then_done n past ds) res ≡ maker past res
 unfolding maker then_done
 maker_then n past [] res e = refl
 maker_then n past (d ∷ ds) res e =
@@ -116,12 +137,14 @@ maker_then n past (d ∷ ds) res e =
     ∙ ap (λ b. if b then n else maker past res) (left_of (makes res d) (list_any (makes res) ds) e)
 
 maker_created : (n : ℕ) (past : Past) (id size usage bind misc stride : ℕ) (bytes : List ℕ) (res : ℕ)
-    → maker (then_done n past (makings (calls.Buffer id size usage bind misc stride bytes))) res ≡ (if id == res then n else maker past res)
+    → maker (then_done n past (makings (calls.Buffer id size usage bind misc stride bytes))) res
+    ≡ (if id == res then n else maker past res)
 unfolding maker then_done
 maker_created n past id size usage bind misc stride bytes res = refl
 
 call_makes_none : (res : ℕ) (o : Objects) (b : Bindings) (c : Call) → list_any (makes res) (deeds o b c) ≡ false
-call_makes_none res o b c = sym (ap (list_any (makes res)) (append-nil (deeds o b c))) ∙ list_makes_none res o b (record { number = 0; call = c } ∷ [])
+call_makes_none res o b c = sym (ap (list_any (makes res)) (append-nil (deeds o b c)))
+    ∙ list_makes_none res o b (record { number = 0; call = c } ∷ [])
 
 -- ---- what a call does
 
@@ -144,7 +167,8 @@ pub record Stays (b : Buffers) (past : Past) (b' : Buffers) (past' : Past) (ts :
   pub keeps : KeepLive ts
 
 -- call n creates a buffer of an id that was free
-pub record Creates (n : ℕ) (made : Option Shape) (own : ℕ) (b : Buffers) (past : Past) (b' : Buffers) (past' : Past) (ts : List Turn) : Type 0 where
+pub record Creates (n : ℕ) (made : Option Shape) (own : ℕ) (b : Buffers) (past : Past) (b' : Buffers) (past' : Past)
+    (ts : List Turn) : Type 0 where
   pub id : ℕ
   pub shape : Shape
   pub bytes : List ℕ
@@ -164,21 +188,26 @@ pub record Destroys (n : ℕ) (b : Buffers) (past : Past) (b' : Buffers) (past' 
   pub turns : ts ≡ Item n n true (Destroy (maker past id)) [] ∷ []
 
 abbrev pub Step : ℕ → Option Shape → ℕ → Buffers → Past → Buffers → Past → List Turn → Type 0
-Step n made own b past b' past' ts = Stays b past b' past' ts ⊎ (Creates n made own b past b' past' ts ⊎ Destroys n b past b' past' ts)
+Step n made own b past b' past' ts = Stays b past b' past' ts
+    ⊎ (Creates n made own b past b' past' ts ⊎ Destroys n b past b' past' ts)
 
 -- ---- by the kinds of calls
 
 -- a call of which the buffers know nothing, with one turn
-quiet : (n : ℕ) (b : Buffers) (past : Past) (t : Turn) → turn_keeps t ≡ true → Stays b past b (then_done n past []) (t ∷ [])
+quiet : (n : ℕ) (b : Buffers) (past : Past) (t : Turn) → turn_keeps t ≡ true
+    → Stays b past b (then_done n past []) (t ∷ [])
 quiet n b past t e = record { buffers = refl; makers = λ res. maker_then n past [] res refl; keeps = (e, tt) }
 
 each : (n : ℕ) (s : State) (x : ℕ) (c : Call)
     → Stays s.objects.buffers s.past (if x == 0 then played n s.objects c else recorded_on n s.objects x c).buffers
-    (then_done n s.past (if x == 0 then deeds s.objects (bindings_of s.objects 0) c else [])) (if x == 0 then item_of n n true s.past s.objects c ∷ [] else Went n ∷ [])
+    (then_done n s.past (if x == 0 then deeds s.objects (bindings_of s.objects 0) c else []))
+    (if x == 0 then item_of n n true s.past s.objects c ∷ [] else Went n ∷ [])
 each n s x c =
     let b : Bindings = bindings_of s.objects 0 in
-    elim (x == 0) as (λ t. Stays s.objects.buffers s.past (if t then played n s.objects c else recorded_on n s.objects x c).buffers
-    (then_done n s.past (if t then deeds s.objects (bindings_of s.objects 0) c else [])) (if t then item_of n n true s.past s.objects c ∷ [] else Went n ∷ [])) [
+    elim (x == 0) as
+    (λ t. Stays s.objects.buffers s.past (if t then played n s.objects c else recorded_on n s.objects x c).buffers
+    (then_done n s.past (if t then deeds s.objects (bindings_of s.objects 0) c else []))
+    (if t then item_of n n true s.past s.objects c ∷ [] else Went n ∷ [])) [
       | true ↦ record {
         buffers = refl;
         makers = λ res. maker_then n s.past (deeds s.objects b c) res (call_makes_none res s.objects b c);
@@ -187,20 +216,37 @@ each n s x c =
       | false ↦ quiet n s.objects.buffers s.past (Went n) refl
     ]
 
-destroy : (t1 t2 t3 t4 : Bool) (n : ℕ) (made : Option Shape) (own : ℕ) (o : Objects) (past : Past) (id : ℕ) (last : List Check)
-    → Passed (if t1 then unused_buffer o id else if t2 then unused_view o id else if t3 then unused_shader o id else if t4 then unused_query o id else last)
+destroy : (t1 t2 t3 t4 : Bool) (n : ℕ) (made : Option Shape) (own : ℕ) (o : Objects) (past : Past) (id : ℕ)
+    (last : List Check)
+    → Passed (if t1 then unused_buffer o id else if t2 then unused_view o id else if t3 then unused_shader o id else
+    if t4 then unused_query o id else last)
     → Step n made own o.buffers past
-    (if t1 then record o { buffers = remove o.buffers id } else if t2 then record o { views = remove o.views id } else if t3 then record o { shaders = remove o.shaders id } else if t4 then record o { queries = remove o.queries id } else record o { lists = remove o.lists id }).buffers
+    (if t1 then record o { buffers = remove o.buffers id } else if t2 then record o { views = remove o.views id }
+    else if t3 then record o { shaders = remove o.shaders id } else if t4 then record o {
+      queries =
+          remove o.queries id;
+    } else record o { lists = remove o.lists id }).buffers
     (then_done n past []) (Item n n true (if t1 then Destroy (maker past id) else Set_state) [] ∷ [])
 destroy true t2 t3 t4 n made own o past id last p =
-    inr (inr (record { id = id; lives = not-false (is_some (get o.buffers id)) p.0; buffers = refl; makers = λ res. maker_then n past [] res refl; turns = refl }))
+    inr (inr (record {
+      id = id;
+      lives = not-false (is_some (get o.buffers id)) p.0;
+      buffers = refl;
+      makers =
+          λ res. maker_then n past [] res refl;
+      turns = refl;
+    }))
 destroy false true t3 t4 n made own o past id last p = inl (quiet n o.buffers past (Item n n true Set_state []) refl)
 destroy false false true t4 n made own o past id last p = inl (quiet n o.buffers past (Item n n true Set_state []) refl)
-destroy false false false true n made own o past id last p = inl (quiet n o.buffers past (Item n n true Set_state []) refl)
-destroy false false false false n made own o past id last p = inl (quiet n o.buffers past (Item n n true Set_state []) refl)
+destroy false false false true n made own o past id last p =
+    inl (quiet n o.buffers past (Item n n true Set_state []) refl)
+destroy false false false false n made own o past id last p =
+    inl (quiet n o.buffers past (Item n n true Set_state []) refl)
 
-step_accepted : (n : ℕ) (s : State) (x : ℕ) (c : Call) → verdict s.objects s.past (record { context = x; call = c }) ≡ None
-    → Step n (shape_by c) (id_by c) s.objects.buffers s.past (accepted n s x c).objects.buffers (accepted n s x c).past (turns_by_place (place_of c) n s x c)
+step_accepted : (n : ℕ) (s : State) (x : ℕ) (c : Call) → verdict s.objects s.past (record { context = x; call = c })
+    ≡ None
+    → Step n (shape_by c) (id_by c) s.objects.buffers s.past (accepted n s x c).objects.buffers
+    (accepted n s x c).past (turns_by_place (place_of c) n s x c)
 step_accepted n s x (calls.Buffer id size usage bind misc stride bytes) e = inr (inl (record {
   id = id;
   shape = record { size = size; usage = usage_from usage; bind = bind; misc = misc; stride = stride };
@@ -213,19 +259,25 @@ step_accepted n s x (calls.Buffer id size usage bind misc stride bytes) e = inr 
   own_here = refl;
 }))
 step_accepted n s x (calls.Destroy class id) e =
-    destroy (class == 1) (class == 2) (class == 3) (class == 4) n None 0 s.objects s.past id (if class == 5 then known_list s.objects id else (true, BadUsage) ∷ [])
+    destroy (class == 1) (class == 2) (class == 3) (class == 4) n None 0 s.objects s.past id
+    (if class == 5 then known_list s.objects id else (true, BadUsage) ∷ [])
     (own_checks s.objects s.past x (calls.Destroy class id) e)
-step_accepted n s x (calls.View view res kind form components first count) e = inl (quiet n s.objects.buffers s.past (Item n n true Set_state []) refl)
-step_accepted n s x (calls.CreateShader id words) e = inl (quiet n s.objects.buffers s.past (Item n n true Create_shader []) refl)
+step_accepted n s x (calls.View view res kind form components first count) e =
+    inl (quiet n s.objects.buffers s.past (Item n n true Set_state []) refl)
+step_accepted n s x (calls.CreateShader id words) e =
+    inl (quiet n s.objects.buffers s.past (Item n n true Create_shader []) refl)
 step_accepted n s x (calls.Query id sort) e = inl (quiet n s.objects.buffers s.past (Item n n true Set_state []) refl)
-step_accepted n s x (calls.MapRead res flag offset len) e = inl (record { buffers = refl; makers = λ q. maker_then n s.past [] q refl; keeps = (refl, tt) })
-step_accepted n s x (calls.GetData query flag) e = inl (record { buffers = refl; makers = λ q. maker_then n s.past [] q refl; keeps = (refl, tt) })
+step_accepted n s x (calls.MapRead res flag offset len) e = inl
+    (record { buffers = refl; makers = λ q. maker_then n s.past [] q refl; keeps = (refl, tt) })
+step_accepted n s x (calls.GetData query flag) e =
+    inl (record { buffers = refl; makers = λ q. maker_then n s.past [] q refl; keeps = (refl, tt) })
 step_accepted n s x calls.Flush e = inl (quiet n s.objects.buffers s.past (Flushed n) refl)
 step_accepted n s x (calls.ExecuteList list flag) e =
     let cs : List Numbered = calls_of_list s.objects list in
     inl (record {
       buffers = same_buffers_all n (list_start s.objects) cs;
-      makers = λ res. maker_then n s.past (deeds_of_list s.objects cs) res (list_makes_none res s.objects binding.default_bindings cs);
+      makers = λ res. maker_then n s.past (deeds_of_list s.objects cs) res
+          (list_makes_none res s.objects binding.default_bindings cs);
       keeps = list_keeps n s.past (list_start s.objects) cs;
     })
 step_accepted n s x (calls.FinishList list) e = inl (quiet n s.objects.buffers s.past (Went n) refl)
@@ -233,17 +285,20 @@ step_accepted n s x c e = inl (each n s x c)
 
 -- what call n does, after the calls before it
 pub step_at : (log : List Issued) (n : ℕ)
-    → Step (suc n) (shape_made log (suc n)) (id_made log (suc n)) (after_calls log n).objects.buffers (after_calls log n).past
+    → Step (suc n) (shape_made log (suc n)) (id_made log (suc n)) (after_calls log n).objects.buffers
+    (after_calls log n).past
     (after_calls log (suc n)).objects.buffers (after_calls log (suc n)).past (turns_of log (suc n))
 unfolding after_calls
 step_at log n = one (suc n) (after_calls log n) (slice_get log n)
   where
     unless : (n : ℕ) (s : State) (i : Issued) (v : Option Refusal) → verdict_in s i ≡ v
-        → Step n (shape_unless i.call v) (id_by i.call) s.objects.buffers s.past (unless_refused n s i v).objects.buffers (unless_refused n s i v).past (turns_unless n s i v)
+        → Step n (shape_unless i.call v) (id_by i.call) s.objects.buffers s.past
+        (unless_refused n s i v).objects.buffers (unless_refused n s i v).past (turns_unless n s i v)
     unless n s i (Some why) e = inl (record { buffers = refl; makers = λ res. refl; keeps = (refl, tt) })
     unless n s i None e = step_accepted n s i.context i.call e
 
     one : (n : ℕ) (s : State) (o : Option Issued)
-        → Step n (shape_in s o) (id_in o) s.objects.buffers s.past (after_call n s o).objects.buffers (after_call n s o).past (turns_in n s o)
+        → Step n (shape_in s o) (id_in o) s.objects.buffers s.past (after_call n s o).objects.buffers
+        (after_call n s o).past (turns_in n s o)
     one n s None = inl (record { buffers = refl; makers = λ res. refl; keeps = tt })
     one n s (Some i) = unless n s i (verdict_in s i) refl

@@ -1,5 +1,6 @@
 -- Each call that is played fits: a copy's buffers have bytes, and a map's mode is one of three.
-use Rattle.std.proofs.Common.{◌≡◌, ℕ, ◌<◌, ◌≤◌, Bool, true, false, ◌&&◌, ◌||◌, List, [], ◌∷◌, Option, Some, None, refl, ap, arith, inl, inr}
+use Rattle.std.proofs.Common.{◌≡◌, ℕ, ◌<◌, ◌≤◌, Bool, true, false, ◌&&◌, ◌||◌, List, [], ◌∷◌, Option, Some, None}
+use Rattle.std.proofs.Common.{refl, ap, arith, inl, inr}
 use Rattle.std.specs.Prelude.{◌==◌, nat_lt, is_some}
 use Rattle.std.specs.List.{list_any}
 use Rattle.std.proofs.lemmas.Bool.{or_left, or_right, or_cases, and_from, eqb-true, eq-eqb, ltb-false}
@@ -34,14 +35,22 @@ has_id b id h live = (one_live Made b id h live).2.named
 mode_in : (mode : ℕ) (a b : Bool) → nat_lt 2 mode || a || b ≡ false → mode ≤ 2
 mode_in mode a b e = omega (arith, ltb-false 2 mode (left_of (nat_lt 2 mode) a (left_of (nat_lt 2 mode || a) b e)))
 
-named_if : (o : Objects) (past : Past) (x : ℕ) (c : Call) → Passed (call_checks o past x c) → AllLive Made o.buffers → Named c
-named_if o past x (calls.Copy target source) p h = (has_id o.buffers target h (not_false _ p.0), has_id o.buffers source h (not_false _ p.1.0))
+named_if : (o : Objects) (past : Past) (x : ℕ) (c : Call) → Passed (call_checks o past x c) → AllLive Made o.buffers
+    → Named c
+named_if o past x (calls.Copy target source) p h = (
+  has_id o.buffers target h (not_false _ p.0),
+  has_id o.buffers source h (not_false _ p.1.0),
+)
 named_if o past x (calls.MapWrite res mode offset bytes) p h = mode_in mode _ _ p.1.0
 named_if o past x _ p h = tt
 
 -- a call that is accepted
-pub fit_if : (o : Objects) (past : Past) (x : ℕ) (c : Call) → Passed (call_checks o past x c) → AllLive Made o.buffers → Fit o.buffers c
-fit_if o past x (calls.Copy target source) p h = (has_size o.buffers target h (not_false _ p.0), has_size o.buffers source h (not_false _ p.1.0))
+pub fit_if : (o : Objects) (past : Past) (x : ℕ) (c : Call) → Passed (call_checks o past x c)
+    → AllLive Made o.buffers → Fit o.buffers c
+fit_if o past x (calls.Copy target source) p h = (
+  has_size o.buffers target h (not_false _ p.0),
+  has_size o.buffers source h (not_false _ p.1.0),
+)
 fit_if o past x (calls.MapWrite res mode offset bytes) p h = mode_in mode _ _ p.1.0
 fit_if o past x _ p h = tt
 
@@ -56,19 +65,27 @@ surely id live some e = elim (or_cases (id == 0) live e) [
 pub first_named : (k id : ℕ) (rest : Bool) → ((k == k) && (id == id)) || rest ≡ true
 first_named k id rest = or_left _ rest (and_from (k == k) (id == id) (eq-eqb k k refl) (eq-eqb id id refl))
 
-fit_named : (o : Objects) (c : Call) → Named c → ((class id : ℕ) → list_any (is_name class id) (names c) ≡ true → is_live o class id ≡ true) → AllLive Made o.buffers → Fit o.buffers c
+fit_named : (o : Objects) (c : Call) → Named c → ((class id : ℕ) → list_any (is_name class id) (names c) ≡ true
+    → is_live o class id ≡ true) → AllLive Made o.buffers → Fit o.buffers c
 fit_named o (calls.Copy target source) named live h = (
-  has_size o.buffers target h (surely target (is_live_buffer o target) named.0 (live 1 target (first_named 1 target _))),
-  has_size o.buffers source h (surely source (is_live_buffer o source) named.1 (live 1 source (or_right _ _ (first_named 1 source false)))),
+  has_size o.buffers target h (surely target (is_live_buffer o target) named.0
+      (live 1 target (first_named 1 target _))),
+  has_size o.buffers source h (surely source (is_live_buffer o source) named.1
+      (live 1 source (or_right _ _ (first_named 1 source false)))),
 )
 fit_named o (calls.MapWrite res mode offset bytes) named live h = named
 fit_named o _ named live h = tt
 
-list_fits : (o : Objects) (cs : List Numbered) → All Named cs → ListLive o cs → AllLive Made o.buffers → All (Fit o.buffers) cs
+list_fits : (o : Objects) (cs : List Numbered) → All Named cs → ListLive o cs → AllLive Made o.buffers
+    → All (Fit o.buffers) cs
 list_fits o [] named live h = tt
 list_fits o (c ∷ cs) named live h = (
-  fit_named o c.call named.0 (λ class id e. live class id (or_left (list_any (is_name class id) (names c.call)) (list_names class id cs) e)) h,
-  list_fits o cs named.1 (λ class id e. live class id (or_right (list_any (is_name class id) (names c.call)) (list_names class id cs) e)) h,
+  fit_named o c.call named.0
+      (λ class id e. live class id (or_left (list_any (is_name class id) (names c.call)) (list_names class id cs)
+      e)) h,
+  list_fits o cs named.1
+      (λ class id e. live class id (or_right (list_any (is_name class id) (names c.call)) (list_names class id cs)
+      e)) h,
 )
 
 accepts_named : (log : List Issued) → Accepts Named log
@@ -76,7 +93,8 @@ accepts_named log n i e =
     let s = after_calls log n in
     named_if s.objects s.past i.context i.call (own_checks s.objects s.past i.context i.call e) (live_made log n)
 
-pub list_live : (o : Objects) (list : ℕ) → ((l : ℕ) (cs : List Numbered) → get o.lists l ≡ Some cs → ListLive o cs) → ListLive o (calls_of_list o list)
+pub list_live : (o : Objects) (list : ℕ) → ((l : ℕ) (cs : List Numbered) → get o.lists l ≡ Some cs → ListLive o cs)
+    → ListLive o (calls_of_list o list)
 list_live o list h = by_value (get o.lists list) refl
   where
     by_value : (v : Option (List Numbered)) → get o.lists list ≡ v → ListLive o (calls_if v)
@@ -84,7 +102,9 @@ list_live o list h = by_value (get o.lists list) refl
     by_value (Some cs) e = h list cs e
 
 -- after each call, those of a live list fit
-pub listed_fit : (log : List Issued) (n list : ℕ) → All (Fit (after_calls log n).objects.buffers) (calls_of_list (after_calls log n).objects list)
+pub listed_fit : (log : List Issued) (n list : ℕ) → All (Fit (after_calls log n).objects.buffers)
+    (calls_of_list (after_calls log n).objects list)
 listed_fit log n list =
     let o = (after_calls log n).objects in
-    list_fits o (calls_of_list o list) (of_list Named o list (recorded Named log (accepts_named log) n)) (list_live o list (lists_live log n).listed) (live_made log n)
+    list_fits o (calls_of_list o list) (of_list Named o list (recorded Named log (accepts_named log) n))
+    (list_live o list (lists_live log n).listed) (live_made log n)

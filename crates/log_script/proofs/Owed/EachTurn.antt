@@ -11,16 +11,21 @@ use Rattle.log_script.proofs.Owed.StayingFit.{all_by, all_append}
 abbrev pub OfSome : (ℕ → Turn → Type 0) → Turn → Type 0
 OfSome P t = (n : ℕ) × P n t
 
-pub turns_all : (P : ℕ → Turn → Type 0) (log : List Issued) → ((n : ℕ) → AllByRecursion (P n) (turns_of log n)) → (n : ℕ) → AllByRecursion (OfSome P) (turns_upto log n)
+pub turns_all : (P : ℕ → Turn → Type 0) (log : List Issued) → ((n : ℕ) → AllByRecursion (P n) (turns_of log n))
+    → (n : ℕ) → AllByRecursion (OfSome P) (turns_upto log n)
 unfolding turns_upto
 turns_all P log each zero = tt
 turns_all P log each (suc n) =
-    all_append (OfSome P) (turns_upto log n) (turns_of log (suc n)) (turns_all P log each n) (all_by (P (suc n)) (OfSome P) (λ t h. (suc n, h)) (turns_of log (suc n)) (each (suc n)))
+    all_append (OfSome P) (turns_upto log n) (turns_of log (suc n)) (turns_all P log each n)
+    (all_by (P (suc n)) (OfSome P) (λ t h. (suc n, h)) (turns_of log (suc n)) (each (suc n)))
 
-pub all_behind : (P : Turn → Type 0) (front : List Turn) (t : Turn) (back : List Turn) → AllByRecursion P (front ++ t ∷ back) → P t
+pub all_behind : (P : Turn → Type 0) (front : List Turn) (t : Turn) (back : List Turn)
+    → AllByRecursion P (front ++ t ∷ back) → P t
 all_behind P [] t back h = h.0
 all_behind P (u ∷ front) t back h = all_behind P front t back h.1
 
-pub each_turn : (P : ℕ → Turn → Type 0) (log : List Issued) → ((n : ℕ) → AllByRecursion (P n) (turns_of log n)) → (front : List Turn) (t : Turn) (back : List Turn) → (script_of log).turns ≡ front ++ t ∷ back
+pub each_turn : (P : ℕ → Turn → Type 0) (log : List Issued) → ((n : ℕ) → AllByRecursion (P n) (turns_of log n))
+    → (front : List Turn) (t : Turn) (back : List Turn) → (script_of log).turns ≡ front ++ t ∷ back
     → OfSome P t
-each_turn P log each front t back e = all_behind (OfSome P) front t back (subst (AllByRecursion (OfSome P)) e (turns_all P log each (length log)))
+each_turn P log each front t back e = all_behind (OfSome P) front t back
+    (subst (AllByRecursion (OfSome P)) e (turns_all P log each (length log)))

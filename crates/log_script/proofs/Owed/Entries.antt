@@ -14,7 +14,8 @@ all_empty {X} P id x e = absurd (none (get (empty {X = X}) id) (get-empty X id) 
     none : (o : Option X) → o ≡ None → o ≡ Some x → ⊥
     none o e f = cc
 
-pub all_insert : {X : Type 0} (P : ℕ → X → Type 0) (m : IdMap X) (k : ℕ) (v : X) → P k v → AllIn P m → AllIn P (insert m k v)
+pub all_insert : {X : Type 0} (P : ℕ → X → Type 0) (m : IdMap X) (k : ℕ) (v : X) → P k v → AllIn P m
+    → AllIn P (insert m k v)
 all_insert {X} P m k v pk h q x e = elim (cases_eq q k) [
   | inl p ↦
       let same : Some v ≡ Some x = sym (get_same m k v) ∙ (ap (λ (j : ℕ). get (insert m k v) j) (sym p) ∙ e) in

@@ -1,5 +1,6 @@
 -- Each live view has a byte.
-use Rattle.std.proofs.Common.{◌≡◌, ℕ, zero, suc, ◌+◌, ◌*◌, ◌<◌, Bool, true, false, ◌||◌, List, Option, Some, None, refl, sym, ap, ◌∙◌, subst, arith}
+use Rattle.std.proofs.Common.{◌≡◌, ℕ, zero, suc, ◌+◌, ◌*◌, ◌<◌, Bool, true, false, ◌||◌, List, Option, Some, None}
+use Rattle.std.proofs.Common.{refl, sym, ap, ◌∙◌, subst, arith}
 use Rattle.std.specs.Prelude.{◌==◌, nat_lt, slice_get, if◌then◌else◌}
 use Rattle.std.proofs.lemmas.Bool.{ltb-false, eqb-false}
 use Rattle.std.proofs.lemmas.Nat.{mul-add-lt}
@@ -41,32 +42,51 @@ some_components zero e = absurd cc
 some_components (suc k) e = omega arith
 
 has_unit : (buffer : Option Shape) (form components : ℕ) (s : Shape) (res : ℕ) → buffer ≡ Some s → Made res s
-    → nat_lt 2 form || bad_components form components || lacks_form s (form_from form) ≡ false → 0 < unit_of (form_from form) (stride_of buffer) components
+    → nat_lt 2 form || bad_components form components || lacks_form s (form_from form) ≡ false
+    → 0 < unit_of (form_from form) (stride_of buffer) components
 has_unit buffer zero components s res e m h = omega arith
-has_unit buffer (suc zero) components s res e m h = omega (arith, ap stride_of e, m.stride (not_false _ (none_of _ _ h)))
-has_unit buffer (suc (suc zero)) components s res e m h = some_components components (none_of (nat_lt 2 2) (bad_components 2 components) (left_of _ _ h))
-has_unit buffer (suc (suc (suc k))) components s res e m h = absurd (omega (arith, ltb-false 2 (suc (suc (suc k))) (left_of _ _ (left_of _ _ h))))
+has_unit buffer (suc zero) components s res e m h = omega (
+  arith,
+  ap stride_of e,
+  m.stride (not_false _ (none_of _ _ h)),
+)
+has_unit buffer (suc (suc zero)) components s res e m h = some_components components
+    (none_of (nat_lt 2 2) (bad_components 2 components) (left_of _ _ h))
+has_unit buffer (suc (suc (suc k))) components s res e m h =
+    absurd (omega (arith, ltb-false 2 (suc (suc (suc k))) (left_of _ _ (left_of _ _ h))))
 
 -- what is tested of a live buffer
-pub tested : (o : Option Shape) (s : Shape) (test : Shape → Bool) (b : Bool) → o ≡ Some s → is_one o test ≡ b → test s ≡ b
+pub tested : (o : Option Shape) (s : Shape) (test : Shape → Bool) (b : Bool) → o ≡ Some s → is_one o test ≡ b
+    → test s ≡ b
 tested o s test b e h = sym (ap (λ (q : Option Shape). is_one q test) e) ∙ h
 
-pub or_tested : (o : Option Shape) (s : Shape) (test : Shape → Bool) (a : Bool) → o ≡ Some s → a || is_one o test ≡ false → a || test s ≡ false
+pub or_tested : (o : Option Shape) (s : Shape) (test : Shape → Bool) (a : Bool) → o ≡ Some s
+    → a || is_one o test ≡ false → a || test s ≡ false
 or_tested o s test a e h = sym (ap (λ (q : Option Shape). a || is_one q test) e) ∙ h
 
-view_made : (o : Objects) (past : Past) (x view res kind form components first count : ℕ) → Passed (call_checks o past x (calls.View view res kind form components first count)) → AllLive Made o.buffers
+view_made : (o : Objects) (past : Past) (x view res kind form components first count : ℕ)
+    → Passed (call_checks o past x (calls.View view res kind form components first count)) → AllLive Made o.buffers
     → HasByte (described o res kind form components first count)
 view_made o past x view res kind form components first count p h =
     let v = described o res kind form components first count in
     let one = one_live Made o.buffers res h (not_false (is_live_buffer o res) p.1.0) in
     record {
-      count = omega (arith, eqb-false count 0 (left_of (count == 0) _ (tested (buffer_of o res) one.0 (λ s. is_outside s v) false one.1 p.1.1.1.1.1.0)));
+      count = omega (
+        arith,
+        eqb-false count 0
+            (left_of (count == 0) _ (tested (buffer_of o res) one.0 (λ s. is_outside s v) false one.1 p.1.1.1.1.1.0)),
+      );
       unit = has_unit (buffer_of o res) form components one.0 res one.1 one.2
-          (or_tested (buffer_of o res) one.0 (λ s. lacks_form s (form_from form)) (nat_lt 2 form || bad_components form components) one.1 p.1.1.1.1.0);
+          (or_tested (buffer_of o res) one.0 (λ s. lacks_form s (form_from form))
+          (nat_lt 2 form || bad_components form components) one.1 p.1.1.1.1.0);
     }
 
 pub kept_if : (t1 t2 t3 t4 : Bool) (o : Objects) (i q : ℕ) (v : ViewShape)
-    → get (if t1 then record o { buffers = remove o.buffers i } else if t2 then record o { views = remove o.views i } else if t3 then record o { shaders = remove o.shaders i } else if t4 then record o { queries = remove o.queries i } else record o { lists = remove o.lists i }).views q ≡ Some v
+    → get (if t1 then record o { buffers = remove o.buffers i } else if t2 then record o {
+      views =
+          remove o.views i;
+    } else if t3 then record o { shaders = remove o.shaders i } else if t4 then record o
+    { queries = remove o.queries i } else record o { lists = remove o.lists i }).views q ≡ Some v
     → get o.views q ≡ Some v
 kept_if true t2 t3 t4 o i q v e = e
 kept_if false true t3 t4 o i q v e = one_removed o.views i q v e
@@ -74,19 +94,26 @@ kept_if false false true t4 o i q v e = e
 kept_if false false false true o i q v e = e
 kept_if false false false false o i q v e = e
 
-on_each : (n : ℕ) (o : Objects) (x : ℕ) (c : Call) → AllViews o.views → AllViews (if x == 0 then played n o c else recorded_on n o x c).views
-on_each n o x c h = elim (x == 0) as (λ b. AllViews (if b then played n o c else recorded_on n o x c).views) [ true ↦ h | false ↦ h ]
+on_each : (n : ℕ) (o : Objects) (x : ℕ) (c : Call) → AllViews o.views
+    → AllViews (if x == 0 then played n o c else recorded_on n o x c).views
+on_each n o x c h = elim (x == 0) as (λ b. AllViews (if b then played n o c else recorded_on n o x c).views)
+    [ true ↦ h | false ↦ h ]
 
-after_one : (n : ℕ) (o : Objects) (past : Past) (x : ℕ) (c : Call) → Passed (call_checks o past x c) → AllLive Made o.buffers → AllViews o.views → AllViews (objects_after n o x c).views
-after_one n o past x (calls.View view res kind form components first count) p made h = all_insert (λ id v. HasByte v) o.views view _ (view_made o past x view res kind form components first count p made) h
-after_one n o past x (calls.Destroy class id) p made h = λ q v e. h q v (kept_if (class == 1) (class == 2) (class == 3) (class == 4) o id q v e)
+after_one : (n : ℕ) (o : Objects) (past : Past) (x : ℕ) (c : Call) → Passed (call_checks o past x c)
+    → AllLive Made o.buffers → AllViews o.views → AllViews (objects_after n o x c).views
+after_one n o past x (calls.View view res kind form components first count) p made h =
+    all_insert (λ id v. HasByte v) o.views view _ (view_made o past x view res kind form components first count p
+    made) h
+after_one n o past x (calls.Destroy class id) p made h = λ q v e. h q v
+    (kept_if (class == 1) (class == 2) (class == 3) (class == 4) o id q v e)
 after_one n o past x (calls.Buffer id size usage bind misc stride bytes) p made h = h
 after_one n o past x (calls.CreateShader id words) p made h = h
 after_one n o past x (calls.Query id sort) p made h = h
 after_one n o past x (calls.MapRead res flag offset len) p made h = h
 after_one n o past x (calls.GetData query flag) p made h = h
 after_one n o past x calls.Flush p made h = h
-after_one n o past x (calls.ExecuteList list flag) p made h = subst (λ (m : IdMap ViewShape). AllViews m) (sym (same_views_all n (list_start o) (calls_of_list o list))) h
+after_one n o past x (calls.ExecuteList list flag) p made h =
+    subst (λ (m : IdMap ViewShape). AllViews m) (sym (same_views_all n (list_start o) (calls_of_list o list))) h
 after_one n o past x (calls.FinishList list) p made h = h
 after_one n o past x c p made h = on_each n o x c h
 
@@ -95,10 +122,13 @@ unfolding after_calls
 all_views log zero = all_empty (λ id v. HasByte v)
 all_views log (suc n) = by_call (suc n) (after_calls log n) (slice_get log n) (live_made log n) (all_views log n)
   where
-    unless : (n : ℕ) (s : State) (i : Issued) (v : Option Refusal) → verdict_in s i ≡ v → AllLive Made s.objects.buffers → AllViews s.objects.views → AllViews (unless_refused n s i v).objects.views
+    unless : (n : ℕ) (s : State) (i : Issued) (v : Option Refusal) → verdict_in s i ≡ v
+        → AllLive Made s.objects.buffers → AllViews s.objects.views → AllViews (unless_refused n s i v).objects.views
     unless n s i (Some why) e made h = h
-    unless n s i None e made h = after_one n s.objects s.past i.context i.call (own_checks s.objects s.past i.context i.call e) made h
+    unless n s i None e made h = after_one n s.objects s.past i.context i.call
+        (own_checks s.objects s.past i.context i.call e) made h
 
-    by_call : (n : ℕ) (s : State) (o : Option Issued) → AllLive Made s.objects.buffers → AllViews s.objects.views → AllViews (after_call n s o).objects.views
+    by_call : (n : ℕ) (s : State) (o : Option Issued) → AllLive Made s.objects.buffers → AllViews s.objects.views
+        → AllViews (after_call n s o).objects.views
     by_call n s None made h = h
     by_call n s (Some i) made h = unless n s i (verdict_in s i) refl made h

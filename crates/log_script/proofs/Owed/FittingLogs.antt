@@ -23,17 +23,25 @@ use Rattle.d3d_model.proofs.Listed.{own_checks}
 use Rattle.log_script.specs.Fitting.{SetFits, ListFits}
 use Rattle.log_script.proofs.Owed.StayingFit.{all_replicate, RangesFit, OwnFits, OwnsFit}
 use Rattle.log_script.proofs.Owed.FittingCalls.{own_fits, default_fits, set_by_fits, binds_fit}
-use Rattle.log_script.proofs.Owed.FittingStates.{ContextFits, StateFits, default_context_fits, context_fits, listed_fits, fits_played, fits_recorded, fits_executed, fits_finished}
-use Rattle.log_script.proofs.Owed.FittingObjects.{fits_created_buffer, fits_created_view, fits_created_shader, fits_created_query, fits_destroyed}
+use Rattle.log_script.proofs.Owed.FittingStates.{ContextFits, StateFits, default_context_fits, context_fits}
+use Rattle.log_script.proofs.Owed.FittingStates.{listed_fits, fits_played, fits_recorded, fits_executed}
+use Rattle.log_script.proofs.Owed.FittingStates.{fits_finished}
+use Rattle.log_script.proofs.Owed.FittingObjects.{fits_created_buffer, fits_created_view, fits_created_shader}
+use Rattle.log_script.proofs.Owed.FittingObjects.{fits_created_query, fits_destroyed}
 
 -- ---- all calls
 
-fits_each : (n : ℕ) (o : Objects) (x : ℕ) (c : Call) → OwnFits o c → StateFits o → StateFits (if x == 0 then played n o c else recorded_on n o x c)
-fits_each n o x c own h = elim (x == 0) as (λ b. StateFits (if b then played n o c else recorded_on n o x c)) [ true ↦ fits_played n o c own h | false ↦ fits_recorded n o x c own h ]
+fits_each : (n : ℕ) (o : Objects) (x : ℕ) (c : Call) → OwnFits o c → StateFits o
+    → StateFits (if x == 0 then played n o c else recorded_on n o x c)
+fits_each n o x c own h = elim (x == 0) as (λ b. StateFits (if b then played n o c else recorded_on n o x c))
+    [ true ↦ fits_played n o c own h | false ↦ fits_recorded n o x c own h ]
 
-fits_after : (n : ℕ) (o : Objects) (past : Past) (x : ℕ) (c : Call) → Passed (call_checks o past x c) → StateFits o → StateFits (objects_after n o x c)
-fits_after n o past x (calls.Buffer id size usage bind misc stride bytes) p h = fits_created_buffer n o id size usage bind misc stride bytes p h
-fits_after n o past x (calls.View view res kind form components first count) p h = fits_created_view n o view res kind form components first count p h
+fits_after : (n : ℕ) (o : Objects) (past : Past) (x : ℕ) (c : Call) → Passed (call_checks o past x c) → StateFits o
+    → StateFits (objects_after n o x c)
+fits_after n o past x (calls.Buffer id size usage bind misc stride bytes) p h =
+    fits_created_buffer n o id size usage bind misc stride bytes p h
+fits_after n o past x (calls.View view res kind form components first count) p h =
+    fits_created_view n o view res kind form components first count p h
 fits_after n o past x (calls.CreateShader id words) p h = fits_created_shader n o id words h
 fits_after n o past x (calls.Query id sort) p h = fits_created_query n o id sort h
 fits_after n o past x (calls.Destroy class id) p h = fits_destroyed o class id p h
@@ -57,9 +65,11 @@ state_fits log zero = record {
 }
 state_fits log (suc n) = after_one (suc n) (after_calls log n) (slice_get log n) (state_fits log n)
   where
-    unless : (n : ℕ) (s : State) (i : Issued) (v : Option Refusal) → verdict_in s i ≡ v → StateFits s.objects → StateFits (unless_refused n s i v).objects
+    unless : (n : ℕ) (s : State) (i : Issued) (v : Option Refusal) → verdict_in s i ≡ v → StateFits s.objects
+        → StateFits (unless_refused n s i v).objects
     unless n s i (Some why) e h = h
-    unless n s i None e h = fits_after n s.objects s.past i.context i.call (own_checks s.objects s.past i.context i.call e) h
+    unless n s i None e h = fits_after n s.objects s.past i.context i.call
+        (own_checks s.objects s.past i.context i.call e) h
 
     after_one : (n : ℕ) (s : State) (o : Option Issued) → StateFits s.objects → StateFits (after_call n s o).objects
     after_one n s None h = h
@@ -67,7 +77,8 @@ state_fits log (suc n) = after_one (suc n) (after_calls log n) (slice_get log n)
 
 -- ---- lists
 
-pub list_fits : (o : Objects) (b : Bindings) (cs : List Numbered) → StateFits o → SetFits o b → OwnsFit o cs → ListFits o b cs
+pub list_fits : (o : Objects) (b : Bindings) (cs : List Numbered) → StateFits o → SetFits o b → OwnsFit o cs
+    → ListFits o b cs
 list_fits o b [] h set own = tt
 list_fits o b (c ∷ cs) h set own = (
   record { binds = binds_fit o b c.call h.views own.0 set; set = set },
@@ -76,11 +87,14 @@ list_fits o b (c ∷ cs) h set own = (
 
 -- ---- what a call binds
 
-ranges_append : (o : Objects) (ds es : List Deed) → RangesFit o (filter_map range_bound ds) → RangesFit o (filter_map range_bound es) → RangesFit o (filter_map range_bound (ds ++ es))
+ranges_append : (o : Objects) (ds es : List Deed) → RangesFit o (filter_map range_bound ds)
+    → RangesFit o (filter_map range_bound es) → RangesFit o (filter_map range_bound (ds ++ es))
 ranges_append o [] es f g = g
-ranges_append o (d ∷ ds) es f g = by_range (range_bound d) (filter_map range_bound ds) (filter_map range_bound (ds ++ es)) (λ k. ranges_append o ds es k g) f
+ranges_append o (d ∷ ds) es f g = by_range (range_bound d) (filter_map range_bound ds)
+    (filter_map range_bound (ds ++ es)) (λ k. ranges_append o ds es k g) f
   where
-    by_range : (r : Option ResRange) (rs ss : List ResRange) → (RangesFit o rs → RangesFit o ss) → RangesFit o (cons_option r rs) → RangesFit o (cons_option r ss)
+    by_range : (r : Option ResRange) (rs ss : List ResRange) → (RangesFit o rs → RangesFit o ss)
+        → RangesFit o (cons_option r rs) → RangesFit o (cons_option r ss)
     by_range None rs ss more h = more h
     by_range (Some r) rs ss more h = (h.0, more h.1)
 
@@ -89,40 +103,52 @@ ranges_bound o [] h = tt
 ranges_bound o (r ∷ rs) h = (h.0, ranges_bound o rs h.1)
 
 discards_bind_none : (o : Objects) (c : Call) → RangesFit o (filter_map range_bound (discarded_by c))
-discards_bind_none o (calls.MapWrite res mode offset bytes) = elim (mode == 0) as (λ b. RangesFit o (filter_map range_bound (if b then Discards res ∷ [] else []))) [ true ↦ tt | false ↦ tt ]
+discards_bind_none o (calls.MapWrite res mode offset bytes) =
+    elim (mode == 0) as (λ b. RangesFit o (filter_map range_bound (if b then Discards res ∷ [] else [])))
+    [ true ↦ tt | false ↦ tt ]
 discards_bind_none o _ = tt
 
-deeds_fit : (o : Objects) (b : Bindings) (c : Call) → RangesFit o (binds o b c) → RangesFit o (filter_map range_bound (deeds o b c))
-deeds_fit o b c h = ranges_append o (discarded_by c) (map Binds (binds o b c)) (discards_bind_none o c) (ranges_bound o (binds o b c) h)
+deeds_fit : (o : Objects) (b : Bindings) (c : Call) → RangesFit o (binds o b c)
+    → RangesFit o (filter_map range_bound (deeds o b c))
+deeds_fit o b c h = ranges_append o (discarded_by c) (map Binds (binds o b c)) (discards_bind_none o c)
+    (ranges_bound o (binds o b c) h)
 
-deeds_from_fit : (o : Objects) (b : Bindings) (cs : List Numbered) → ListFits o b cs → RangesFit o (filter_map range_bound (deeds_from o b cs))
+deeds_from_fit : (o : Objects) (b : Bindings) (cs : List Numbered) → ListFits o b cs
+    → RangesFit o (filter_map range_bound (deeds_from o b cs))
 deeds_from_fit o b [] h = tt
-deeds_from_fit o b (c ∷ cs) h = ranges_append o (deeds o b c.call) (deeds_from o (set_by o b c.call) cs) (deeds_fit o b c.call h.0.binds) (deeds_from_fit o (set_by o b c.call) cs h.1)
+deeds_from_fit o b (c ∷ cs) h = ranges_append o (deeds o b c.call) (deeds_from o (set_by o b c.call) cs)
+    (deeds_fit o b c.call h.0.binds) (deeds_from_fit o (set_by o b c.call) cs h.1)
 
 makings_bind_none : (o : Objects) (c : Call) → RangesFit o (filter_map range_bound (makings c))
 makings_bind_none o (calls.Buffer id size usage bind misc stride bytes) = tt
 makings_bind_none o _ = tt
 
 immediate_fits : (o : Objects) (c : Call) → StateFits o → RangesFit o (filter_map range_bound (immediate_deeds o c))
-immediate_fits o (calls.ExecuteList list flag) h = deeds_from_fit o default_bindings (calls_of_list o list) (list_fits o default_bindings (calls_of_list o list) h (default_fits o) (listed_fits o list h))
+immediate_fits o (calls.ExecuteList list flag) h = deeds_from_fit o default_bindings (calls_of_list o list)
+    (list_fits o default_bindings (calls_of_list o list) h (default_fits o) (listed_fits o list h))
 immediate_fits o _ h = tt
 
-each_fits : (o : Objects) (x : ℕ) (c : Call) → OwnFits o c → StateFits o → RangesFit o (filter_map range_bound (if x == 0 then deeds o (bindings_of o 0) c else []))
-each_fits o x c own h = elim (x == 0) as (λ b. RangesFit o (filter_map range_bound (if b then deeds o (bindings_of o 0) c else []))) [
-  | true ↦ deeds_fit o (bindings_of o 0) c (binds_fit o (bindings_of o 0) c h.views own (context_fits o 0 h).set)
-  | false ↦ tt
-]
+each_fits : (o : Objects) (x : ℕ) (c : Call) → OwnFits o c → StateFits o
+    → RangesFit o (filter_map range_bound (if x == 0 then deeds o (bindings_of o 0) c else []))
+each_fits o x c own h =
+    elim (x == 0) as (λ b. RangesFit o (filter_map range_bound (if b then deeds o (bindings_of o 0) c else []))) [
+      | true ↦ deeds_fit o (bindings_of o 0) c (binds_fit o (bindings_of o 0) c h.views own (context_fits o 0 h).set)
+      | false ↦ tt
+    ]
 
-deeds_at_fit : (p : Place) (o : Objects) (x : ℕ) (c : Call) → OwnFits o c → StateFits o → RangesFit o (filter_map range_bound (deeds_at p o x c))
+deeds_at_fit : (p : Place) (o : Objects) (x : ℕ) (c : Call) → OwnFits o c → StateFits o
+    → RangesFit o (filter_map range_bound (deeds_at p o x c))
 deeds_at_fit OnDevice o x c own h = makings_bind_none o c
 deeds_at_fit OnImmediate o x c own h = immediate_fits o c h
 deeds_at_fit OnEach o x c own h = each_fits o x c own h
 deeds_at_fit OnDeferred o x c own h = tt
 
-bound_unless_fits : (s : State) (i : Issued) (v : Option Refusal) → verdict_in s i ≡ v → StateFits s.objects → RangesFit s.objects (bound_unless s i v)
+bound_unless_fits : (s : State) (i : Issued) (v : Option Refusal) → verdict_in s i ≡ v → StateFits s.objects
+    → RangesFit s.objects (bound_unless s i v)
 bound_unless_fits s i (Some why) e h = tt
 bound_unless_fits s i None e h =
-    deeds_at_fit (place_of i.call) s.objects i.context i.call (own_fits s.objects s.past i.context i.call h.buffers (own_checks s.objects s.past i.context i.call e)) h
+    deeds_at_fit (place_of i.call) s.objects i.context i.call
+    (own_fits s.objects s.past i.context i.call h.buffers (own_checks s.objects s.past i.context i.call e)) h
 
 bound_by_fits : (s : State) (o : Option Issued) → StateFits s.objects → RangesFit s.objects (bound_by s o)
 bound_by_fits s None h = tt

@@ -1,5 +1,6 @@
 -- Where a script is cut: behind all turns of some calls, and some turns of the next one.
-use Rattle.std.proofs.Common.{◌≡◌, ℕ, zero, suc, ◌≤◌, List, [], ◌∷◌, ◌++◌, refl, sym, ap, ◌∙◌, inl, inr, ◌⊎◌, arith, append-nil}
+use Rattle.std.proofs.Common.{◌≡◌, ℕ, zero, suc, ◌≤◌, List, [], ◌∷◌, ◌++◌, refl, sym, ap, ◌∙◌, inl, inr, ◌⊎◌, arith}
+use Rattle.std.proofs.Common.{append-nil}
 use Rattle.call_log.specs.Call.{Issued}
 use Rattle.core_model.specs.Script.{Turn}
 use Rattle.log_script.specs.Turns.{turns_of}
@@ -32,7 +33,8 @@ front_none (t ∷ front) back e = absurd (not_none t (front ++ back) e)
 
 -- a front of two lists, one behind the other, ends in the first or in the second
 pub front_of_two : (xs ys front back : List Turn) → xs ++ ys ≡ front ++ back
-    → ((mid : List Turn) × (xs ≡ front ++ mid) × (back ≡ mid ++ ys)) ⊎ ((mid : List Turn) × (front ≡ xs ++ mid) × (ys ≡ mid ++ back))
+    → ((mid : List Turn) × (xs ≡ front ++ mid) × (back ≡ mid ++ ys))
+    ⊎ ((mid : List Turn) × (front ≡ xs ++ mid) × (ys ≡ mid ++ back))
 front_of_two [] ys front back e = inr (front, refl, e)
 front_of_two (x ∷ xs) ys [] back e = inl (x ∷ xs, refl, sym e)
 front_of_two (x ∷ xs) ys (f ∷ front) back e =
@@ -59,7 +61,8 @@ pub record FrontOf (log : List Issued) (upto : ℕ) (front : List Turn) : Type 0
   pub front_is : front ≡ turns_upto log calls ++ part
   pub next_is : turns_of log (suc calls) ≡ part ++ rest
 
-pub front_of_turns : (log : List Issued) (upto : ℕ) (front back : List Turn) → turns_upto log upto ≡ front ++ back → FrontOf log upto front
+pub front_of_turns : (log : List Issued) (upto : ℕ) (front back : List Turn) → turns_upto log upto ≡ front ++ back
+    → FrontOf log upto front
 front_of_turns log zero front back e =
     let none : front ≡ [] = front_none front back (sym (no_turns log) ∙ e) in
     record {
@@ -70,9 +73,18 @@ front_of_turns log zero front back e =
       front_is = none ∙ sym (no_turns log) ∙ sym (append-nil (turns_upto log zero));
       next_is = refl;
     }
-front_of_turns log (suc upto) front back e = elim (front_of_two (turns_upto log upto) (turns_of log (suc upto)) front back (sym (next_turns log upto) ∙ e)) [
-  | inl s ↦
-      let f = front_of_turns log upto front s.0 s.1 in
-      record { calls = f.calls; part = f.part; rest = f.rest; within = omega (arith, f.within); front_is = f.front_is; next_is = f.next_is }
-  | inr s ↦ record { calls = upto; part = s.0; rest = back; within = omega arith; front_is = s.1; next_is = s.2 }
-]
+front_of_turns log (suc upto) front back e =
+    elim (front_of_two (turns_upto log upto) (turns_of log (suc upto)) front back (sym (next_turns log upto) ∙ e)) [
+      | inl s ↦
+          let f = front_of_turns log upto front s.0 s.1 in
+          record {
+            calls = f.calls;
+            part = f.part;
+            rest = f.rest;
+            within = omega (arith, f.within);
+            front_is =
+                f.front_is;
+            next_is = f.next_is;
+          }
+      | inr s ↦ record { calls = upto; part = s.0; rest = back; within = omega arith; front_is = s.1; next_is = s.2 }
+    ]

@@ -8,7 +8,8 @@ use Rattle.log_script.proofs.Owed.Numbering.{numbers, next, last_ends}
 use Rattle.log_script.proofs.Owed.Classes.{in_limit, fits, none}
 use Rattle.log_script.proofs.Owed.TurnsBound.{script_bound}
 use Rattle.log_script.proofs.Owed.FewDynamic.{few_at}
-use Rattle.log_script.proofs.Owed.LawfulTurns.{meets, asks_rightly, uses_rightly, plays_rightly, plays_formed, shaders_created, bound_fits}
+use Rattle.log_script.proofs.Owed.LawfulTurns.{meets, asks_rightly, uses_rightly, plays_rightly, plays_formed}
+use Rattle.log_script.proofs.Owed.LawfulTurns.{shaders_created, bound_fits}
 
 pub lawful : (log : List Issued) → IsLawful (meaning_of log) (script_of log)
 lawful log = record {
@@ -21,7 +22,8 @@ lawful log = record {
   formed = plays_formed log;
   shaders = shaders_created log;
   fits = bound_fits log;
-  filled = λ front call item ends play bound back e. (meets log front (Item call item ends play bound) back e).fits.filled;
+  filled = λ front call item ends play bound back e. (meets log front (Item call item ends play bound) back
+      e).fits.filled;
   quiet = λ front call item ends play bound back e. (script_bound log front call item ends play bound back e).quiet;
   binds = λ front call item ends play bound back e. (script_bound log front call item ends play bound back e).touched;
   sizes = in_limit log;

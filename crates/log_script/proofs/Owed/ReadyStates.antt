@@ -1,11 +1,13 @@
--- What is known of the objects that a call meets, by itself or in a list, beside that they fit: their slots, views and makers.
+-- What is known of the objects that a call meets, by itself or in a list, beside that they fit: their slots, views
+-- and makers.
 use Rattle.std.proofs.Common.{◌≡◌, ℕ, ◌<◌, true, List, [], ◌∷◌, length, Option, Some, None, refl, ap, ◌∙◌, arith}
 use Rattle.std.specs.Prelude.{is_some, slice_set, slice_index_or}
 use Rattle.dx_types.specs.declared.shape.ViewShape.{ViewShape}
 use Rattle.call_log.specs.Call.{Call, Issued}
 use Rattle.base_lemmas.specs.IdMap.{get}
 use Rattle.d3d_model.specs.Binding.{default_bindings}
-use Rattle.d3d_model.specs.D3dState.{Objects, Numbered, Context, default_context, buffer_of, context_of, bindings_of, calls_if, calls_of_list}
+use Rattle.d3d_model.specs.D3dState.{Objects, Numbered, Context, default_context, buffer_of, context_of, bindings_of}
+use Rattle.d3d_model.specs.D3dState.{calls_if, calls_of_list}
 use Rattle.d3d_model.specs.Past.{Past}
 use Rattle.d3d_model.specs.Stream.{set_by}
 use Rattle.d3d_model.specs.Effect.{played, list_start}
@@ -26,7 +28,8 @@ use Rattle.log_script.proofs.Owed.FormedPlays.{Meets}
 use Rattle.log_script.proofs.Meant.AgreeingContexts.{EachSlots, slots_of, played_slots, start_slots, all_slots_at}
 
 pub record Known (past : Past) (o : Objects) : Type 0 where
-  pub own : (id other : ℕ) → is_some (buffer_of o id) ≡ true → is_some (buffer_of o other) ≡ true → maker past id ≡ maker past other → id ≡ other
+  pub own : (id other : ℕ) → is_some (buffer_of o id) ≡ true → is_some (buffer_of o other) ≡ true
+      → maker past id ≡ maker past other → id ≡ other
   pub whole : (id : ℕ) (v : ViewShape) → get o.views id ≡ Some v → ViewWhole v
   pub slots : EachSlots o.contexts
   pub apart : EachHas ViewsApart o.contexts
@@ -64,7 +67,11 @@ known_played past n o c k = record {
   whole = k.whole;
   slots = played_slots n o c k.slots;
   apart = after_played ViewsApart default_apart set_apart n o c k.apart;
-  long = set_long o.contexts (record { bindings = set_by o (bindings_of o 0) c; recorded = (context_of o 0).recorded }) k.long;
+  long = set_long o.contexts (record {
+    bindings = set_by o (bindings_of o 0) c;
+    recorded =
+        (context_of o 0).recorded;
+  }) k.long;
 }
 
 pub known_start : (past : Past) (o : Objects) → Known past o → Known past (list_start o)
@@ -76,14 +83,17 @@ known_start past o k = record {
   long = set_long o.contexts (record { bindings = default_bindings; recorded = (context_of o 0).recorded }) k.long;
 }
 
-pub played_shader : (past : Past) (n : ℕ) (o : Objects) (c : Call) → Known past o → (bindings_of (played n o c) 0).shader ≡ shader_after (bindings_of o 0).shader c
+pub played_shader : (past : Past) (n : ℕ) (o : Objects) (c : Call) → Known past o
+    → (bindings_of (played n o c) 0).shader ≡ shader_after (bindings_of o 0).shader c
 played_shader past n o c k =
-    ap (λ (x : Context). x.bindings.shader) (set_first o.contexts (record { bindings = set_by o (bindings_of o 0) c; recorded = (context_of o 0).recorded }) k.long)
+    ap (λ (x : Context). x.bindings.shader) (set_first o.contexts
+    (record { bindings = set_by o (bindings_of o 0) c; recorded = (context_of o 0).recorded }) k.long)
     ∙ set_shader_is o (bindings_of o 0) c
 
 pub start_shader : (past : Past) (o : Objects) → Known past o → (bindings_of (list_start o) 0).shader ≡ 0
 start_shader past o k =
-    ap (λ (x : Context). x.bindings.shader) (set_first o.contexts (record { bindings = default_bindings; recorded = (context_of o 0).recorded }) k.long)
+    ap (λ (x : Context). x.bindings.shader) (set_first o.contexts
+    (record { bindings = default_bindings; recorded = (context_of o 0).recorded }) k.long)
 
 -- a state between calls
 pub record StateReady (s : State) : Type 0 where
@@ -91,17 +101,20 @@ pub record StateReady (s : State) : Type 0 where
   pub lists : (list : ℕ) → All (CallStands s.objects) (calls_of_list s.objects list)
   pub shaded : StateShaded s.objects
 
-lists_at : (log : List Issued) (n list : ℕ) → All (CallStands (after_calls log n).objects) (calls_of_list (after_calls log n).objects list)
+lists_at : (log : List Issued) (n list : ℕ) → All (CallStands (after_calls log n).objects)
+    (calls_of_list (after_calls log n).objects list)
 lists_at log n list = by_list (get (after_calls log n).objects.lists list) refl
   where
-    by_list : (found : Option (List Numbered)) → get (after_calls log n).objects.lists list ≡ found → All (CallStands (after_calls log n).objects) (calls_if found)
+    by_list : (found : Option (List Numbered)) → get (after_calls log n).objects.lists list ≡ found
+        → All (CallStands (after_calls log n).objects) (calls_if found)
     by_list None e = tt
     by_list (Some cs) e = (lists_stand log n).listed list cs e
 
 pub state_ready : (log : List Issued) (n : ℕ) → StateReady (after_calls log n)
 state_ready log n = record {
   known = record {
-    own = λ id other e f same. one_maker log n (after_calls log n).objects.buffers (after_calls log n).past (all_made log n) id other e f same;
+    own = λ id other e f same. one_maker log n (after_calls log n).objects.buffers (after_calls log n).past
+        (all_made log n) id other e f same;
     whole = whole_views log n;
     slots = all_slots_at log n;
     apart = all_apart log n;

@@ -1,5 +1,6 @@
 -- A buffer that is set for unordered access is set in no other view slot, on each context after each call.
-use Rattle.std.proofs.Common.{◌≡◌, ℕ, zero, suc, Bool, true, false, List, [], ◌∷◌, replicate, Option, Some, None, refl, sym}
+use Rattle.std.proofs.Common.{◌≡◌, ℕ, zero, suc, Bool, true, false, List, [], ◌∷◌, replicate, Option, Some, None}
+use Rattle.std.proofs.Common.{refl, sym}
 use Rattle.std.specs.Prelude.{slice_set, if◌then◌else◌}
 use Rattle.std.specs.List.{list_any, AllByRecursion}
 use Rattle.call_log.specs.Call as calls
@@ -43,12 +44,17 @@ emptied_right false u s h = h
 
 -- ---- lists of slots
 
-none_beside : (v : Option BoundView) (us : List (Option BoundView)) → list_any (is_beside v) us ≡ false → AllByRecursion (λ u. is_beside v u ≡ false) us
+none_beside : (v : Option BoundView) (us : List (Option BoundView)) → list_any (is_beside v) us ≡ false
+    → AllByRecursion (λ u. is_beside v u ≡ false) us
 none_beside v [] e = tt
-none_beside v (u ∷ us) e = (left_of (is_beside v u) (list_any (is_beside v) us) e, none_beside v us (none_of (is_beside v u) (list_any (is_beside v) us) e))
+none_beside v (u ∷ us) e = (
+  left_of (is_beside v u) (list_any (is_beside v) us) e,
+  none_beside v us (none_of (is_beside v u) (list_any (is_beside v) us) e),
+)
 
 -- the slots without those beside a view are apart from it, on both sides
-without_apart : (v : Option BoundView) (ss : List (Option BoundView)) → AllByRecursion (λ s. Distinct v s × Distinct s v) (without v ss)
+without_apart : (v : Option BoundView) (ss : List (Option BoundView))
+    → AllByRecursion (λ s. Distinct v s × Distinct s v) (without v ss)
 without_apart v [] = tt
 without_apart v (s ∷ ss) = (one (is_beside v s) refl, without_apart v ss)
   where
@@ -56,26 +62,34 @@ without_apart v (s ∷ ss) = (one (is_beside v s) refl, without_apart v ss)
     one true e = (distinct_none v, tt)
     one false e = (apart_beside v s e, beside_apart v s e)
 
-without_right : (u v : Option BoundView) (ss : List (Option BoundView)) → AllByRecursion (Distinct u) ss → AllByRecursion (Distinct u) (without v ss)
+without_right : (u v : Option BoundView) (ss : List (Option BoundView)) → AllByRecursion (Distinct u) ss
+    → AllByRecursion (Distinct u) (without v ss)
 without_right u v [] h = tt
 without_right u v (s ∷ ss) h = (emptied_right (is_beside v s) u s h.0, without_right u v ss h.1)
 
 -- and so in each row of several
-without_rows : (v : Option BoundView) (us ss : List (Option BoundView)) → AllByRecursion (λ u. AllByRecursion (Distinct u) ss) us → AllByRecursion (λ u. AllByRecursion (Distinct u) (without v ss)) (without v us)
+without_rows : (v : Option BoundView) (us ss : List (Option BoundView))
+    → AllByRecursion (λ u. AllByRecursion (Distinct u) ss) us
+    → AllByRecursion (λ u. AllByRecursion (Distinct u) (without v ss)) (without v us)
 without_rows v [] ss h = tt
 without_rows v (u ∷ us) ss h = (
-  all_by (Distinct u) (Distinct (if is_beside v u then None else u)) (λ s k. emptied_left (is_beside v u) u s k) (without v ss) (without_right u v ss h.0),
+  all_by (Distinct u) (Distinct (if is_beside v u then None else u)) (λ s k. emptied_left (is_beside v u) u s k)
+      (without v ss) (without_right u v ss h.0),
   without_rows v us ss h.1,
 )
 
-without_pairs : (v : Option BoundView) (us : List (Option BoundView)) → Pairwise Distinct us → Pairwise Distinct (without v us)
+without_pairs : (v : Option BoundView) (us : List (Option BoundView)) → Pairwise Distinct us
+    → Pairwise Distinct (without v us)
 without_pairs v [] h = tt
 without_pairs v (u ∷ us) h = (
-  all_by (Distinct u) (Distinct (if is_beside v u then None else u)) (λ s k. emptied_left (is_beside v u) u s k) (without v us) (without_right u v us h.0),
+  all_by (Distinct u) (Distinct (if is_beside v u then None else u)) (λ s k. emptied_left (is_beside v u) u s k)
+      (without v us) (without_right u v us h.0),
   without_pairs v us h.1,
 )
 
-set_pairs : (us : List (Option BoundView)) (i : ℕ) (v : Option BoundView) → AllByRecursion (λ s. Distinct v s × Distinct s v) us → Pairwise Distinct us → Pairwise Distinct (slice_set us i v)
+set_pairs : (us : List (Option BoundView)) (i : ℕ) (v : Option BoundView)
+    → AllByRecursion (λ s. Distinct v s × Distinct s v) us → Pairwise Distinct us
+    → Pairwise Distinct (slice_set us i v)
 set_pairs [] i v a h = tt
 set_pairs (u ∷ us) zero v a h = (all_by (λ s. Distinct v s × Distinct s v) (Distinct v) (λ s k. k.0) us a.1, h.1)
 set_pairs (u ∷ us) (suc i) v a h = (all_set (Distinct u) us i v a.0.1 h.0, set_pairs us i v a.1 h.1)
@@ -88,18 +102,23 @@ none_pairs (suc n) = (all_of (Distinct None) (λ s. tt) (replicate n None), none
 
 pub default_apart : ViewsApart default_bindings
 default_apart = record {
-  srvs = all_replicate (λ u. AllByRecursion (Distinct u) default_bindings.srvs) 8 None (all_of (Distinct None) (λ s. tt) default_bindings.srvs);
+  srvs = all_replicate (λ u. AllByRecursion (Distinct u) default_bindings.srvs) 8 None
+      (all_of (Distinct None) (λ s. tt) default_bindings.srvs);
   uavs = none_pairs 8;
 }
 
 srv_apart : (b : Bindings) (slot : ℕ) (v : Option BoundView) → ViewsApart b → ViewsApart (set_srv b slot v)
 srv_apart b slot v h = record { srvs = by (list_any (is_beside v) b.uavs) refl; uavs = h.uavs }
   where
-    by : (c : Bool) → list_any (is_beside v) b.uavs ≡ c → AllByRecursion (λ u. AllByRecursion (Distinct u) (slice_set b.srvs slot (if c then None else v))) b.uavs
-    by true e = all_by (λ u. AllByRecursion (Distinct u) b.srvs) (λ u. AllByRecursion (Distinct u) (slice_set b.srvs slot None)) (λ u k. all_set (Distinct u) b.srvs slot None (distinct_none u) k) b.uavs h.srvs
+    by : (c : Bool) → list_any (is_beside v) b.uavs ≡ c → AllByRecursion
+        (λ u. AllByRecursion (Distinct u) (slice_set b.srvs slot (if c then None else v))) b.uavs
+    by true e = all_by (λ u. AllByRecursion (Distinct u) b.srvs)
+        (λ u. AllByRecursion (Distinct u) (slice_set b.srvs slot None))
+        (λ u k. all_set (Distinct u) b.srvs slot None (distinct_none u) k) b.uavs h.srvs
     by false e = rows b.uavs (none_beside v b.uavs e) h.srvs
       where
-        rows : (us : List (Option BoundView)) → AllByRecursion (λ u. is_beside v u ≡ false) us → AllByRecursion (λ u. AllByRecursion (Distinct u) b.srvs) us
+        rows : (us : List (Option BoundView)) → AllByRecursion (λ u. is_beside v u ≡ false) us
+            → AllByRecursion (λ u. AllByRecursion (Distinct u) b.srvs) us
             → AllByRecursion (λ u. AllByRecursion (Distinct u) (slice_set b.srvs slot v)) us
         rows [] n k = tt
         rows (u ∷ us) n k = (all_set (Distinct u) b.srvs slot v (beside_apart v u n.0) k.0, rows us n.1 k.1)
@@ -107,7 +126,8 @@ srv_apart b slot v h = record { srvs = by (list_any (is_beside v) b.uavs) refl; 
 uav_apart : (b : Bindings) (slot : ℕ) (v : Option BoundView) → ViewsApart b → ViewsApart (set_uav b slot v)
 uav_apart b slot v h = record {
   srvs = all_set (λ u. AllByRecursion (Distinct u) (without v b.srvs)) (without v b.uavs) slot v
-      (all_by (λ s. Distinct v s × Distinct s v) (Distinct v) (λ s k. k.0) (without v b.srvs) (without_apart v b.srvs)) (without_rows v b.uavs b.srvs h.srvs);
+      (all_by (λ s. Distinct v s × Distinct s v) (Distinct v) (λ s k. k.0) (without v b.srvs)
+      (without_apart v b.srvs)) (without_rows v b.uavs b.srvs h.srvs);
   uavs = set_pairs (without v b.uavs) slot v (without_apart v b.uavs) (without_pairs v b.uavs h.uavs);
 }
 

@@ -29,18 +29,26 @@ pub within_over : (ts : List Touch) (r : Range) (rs : List Range) → Within ts 
 within_over ts r rs h = λ b i e. or_right (covers r b i) (in_ranges rs b i) (h b i e)
 
 pub within_both : (ts us : List Touch) (rs : List Range) → Within ts rs → Within us rs → Within (ts ++ us) rs
-within_both ts us rs h k = λ b i e. elim (or_cases (is_touched ts b i) (is_touched us b i) (sym (list_any-append (λ t. covers t.range b i) ts us) ∙ e)) [
-  | inl f ↦ h b i f
-  | inr f ↦ k b i f
-]
+within_both ts us rs h k =
+    λ b i e. elim (or_cases (is_touched ts b i) (is_touched us b i)
+    (sym (list_any-append (λ t. covers t.range b i) ts us) ∙ e)) [
+      | inl f ↦ h b i f
+      | inr f ↦ k b i f
+    ]
 
 -- ranges of two lists, as ranges of buffers by their creations
-made_both : (past : Past) (xs ys : List ResRange) (b i : ℕ) → in_ranges (of_makers past (xs ++ ys)) b i ≡ (in_ranges (of_makers past xs) b i || in_ranges (of_makers past ys) b i)
+made_both : (past : Past) (xs ys : List ResRange) (b i : ℕ) → in_ranges (of_makers past (xs ++ ys)) b i
+    ≡ (in_ranges (of_makers past xs) b i || in_ranges (of_makers past ys) b i)
 made_both past xs ys b i =
-    ap (λ rs. in_ranges rs b i) (map-append (of_maker past) xs ys) ∙ list_any-append (λ r. covers r b i) (of_makers past xs) (of_makers past ys)
+    ap (λ rs. in_ranges rs b i) (map-append (of_maker past) xs ys)
+    ∙ list_any-append (λ r. covers r b i) (of_makers past xs) (of_makers past ys)
 
-pub within_front : (past : Past) (ts : List Touch) (xs ys : List ResRange) → Within ts (of_makers past xs) → Within ts (of_makers past (xs ++ ys))
-within_front past ts xs ys h = λ b i e. made_both past xs ys b i ∙ or_left (in_ranges (of_makers past xs) b i) (in_ranges (of_makers past ys) b i) (h b i e)
+pub within_front : (past : Past) (ts : List Touch) (xs ys : List ResRange) → Within ts (of_makers past xs)
+    → Within ts (of_makers past (xs ++ ys))
+within_front past ts xs ys h = λ b i e. made_both past xs ys b i
+    ∙ or_left (in_ranges (of_makers past xs) b i) (in_ranges (of_makers past ys) b i) (h b i e)
 
-pub within_back : (past : Past) (ts : List Touch) (xs ys : List ResRange) → Within ts (of_makers past ys) → Within ts (of_makers past (xs ++ ys))
-within_back past ts xs ys h = λ b i e. made_both past xs ys b i ∙ or_right (in_ranges (of_makers past xs) b i) (in_ranges (of_makers past ys) b i) (h b i e)
+pub within_back : (past : Past) (ts : List Touch) (xs ys : List ResRange) → Within ts (of_makers past ys)
+    → Within ts (of_makers past (xs ++ ys))
+within_back past ts xs ys h = λ b i e. made_both past xs ys b i
+    ∙ or_right (in_ranges (of_makers past xs) b i) (in_ranges (of_makers past ys) b i) (h b i e)

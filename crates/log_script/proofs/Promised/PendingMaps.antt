@@ -1,5 +1,6 @@
 -- Each call is answered once, so a run's map of pending calls has of each what its one answer says.
-use Rattle.std.proofs.Common.{◌≡◌, ℕ, zero, suc, ◌≤◌, ◌==◌, Bool, true, false, cond, List, [], ◌∷◌, ◌++◌, Option, Some, None, refl, sym, ap, ◌∙◌, subst, append-nil, arith}
+use Rattle.std.proofs.Common.{◌≡◌, ℕ, zero, suc, ◌≤◌, ◌==◌, Bool, true, false, cond, List, [], ◌∷◌, ◌++◌, Option}
+use Rattle.std.proofs.Common.{Some, None, refl, sym, ap, ◌∙◌, subst, append-nil, arith}
 use Rattle.std.specs.Prelude.{⊤}
 use Rattle.std.specs.List.{AllByRecursion, flat_map}
 use Rattle.std.specs.Ordering.{nat_cmp, eq_by_cmp}
@@ -25,7 +26,8 @@ pending_gets [] n = get-empty ℕ n
 pending_gets (Bytes_said call bytes ∷ rs) n = pending_gets rs n
 pending_gets (Value_said call value ∷ rs) n = pending_gets rs n
 pending_gets (Still_said call used finished ∷ rs) n =
-    get-insert (pending_map rs) call finished n ∙ ap (λ (o : Option ℕ). cond (eq_by_cmp nat_cmp n call) (Some finished) o) (pending_gets rs n)
+    get-insert (pending_map rs) call finished n
+    ∙ ap (λ (o : Option ℕ). cond (eq_by_cmp nat_cmp n call) (Some finished) o) (pending_gets rs n)
     ∙ ap (λ (b : Bool). cond b (Some finished) (pending_in rs n)) (keys_alike n call)
 pending_gets (Refused_said call ∷ rs) n = pending_gets rs n
 pending_gets (End_said ∷ rs) n = pending_gets rs n
@@ -64,16 +66,20 @@ unfolding replying
 replying_low log zero = tt
 replying_low log (suc n) =
     all_append (λ k. k ≤ suc n) (replying log n) (replied (suc n) (reply_at log none_pending (suc n)))
-    (weaker (λ k. k ≤ n) (λ k. k ≤ suc n) (λ k h. omega (arith, h)) (replying log n) (replying_low log n)) (replied_low (suc n) (reply_at log none_pending (suc n)))
+    (weaker (λ k. k ≤ n) (λ k. k ≤ suc n) (λ k h. omega (arith, h)) (replying log n) (replying_low log n))
+    (replied_low (suc n) (reply_at log none_pending (suc n)))
 
-replied_then : (ns : List ℕ) (n : ℕ) (o : Option Reply) → Distinct ns → AllByRecursion (λ k. k ≤ n) ns → Distinct (ns ++ replied (suc n) o)
+replied_then : (ns : List ℕ) (n : ℕ) (o : Option Reply) → Distinct ns → AllByRecursion (λ k. k ≤ n) ns
+    → Distinct (ns ++ replied (suc n) o)
 replied_then ns n None d h = subst Distinct (sym (append-nil ns)) d
-replied_then ns n (Some r) d h = distinct_then ns (suc n) d (weaker (λ k. k ≤ n) (λ k. Apart k (suc n)) (λ k low e. omega (arith, low, e)) ns h)
+replied_then ns n (Some r) d h =
+    distinct_then ns (suc n) d (weaker (λ k. k ≤ n) (λ k. Apart k (suc n)) (λ k low e. omega (arith, low, e)) ns h)
 
 pub replying_once : (log : List Issued) (n : ℕ) → Distinct (replying log n)
 unfolding replying
 replying_once log zero = tt
-replying_once log (suc n) = replied_then (replying log n) n (reply_at log none_pending (suc n)) (replying_once log n) (replying_low log n)
+replying_once log (suc n) = replied_then (replying log n) n (reply_at log none_pending (suc n))
+    (replying_once log n) (replying_low log n)
 
 -- ---- what each reply says of the map
 
@@ -88,7 +94,8 @@ absent : (n : ℕ) (rs : List Said) → AllByRecursion (Apart n) (flat_map said_
 absent n [] a = refl
 absent n (Bytes_said call bytes ∷ rs) a = absent n rs a.1
 absent n (Value_said call value ∷ rs) a = absent n rs a.1
-absent n (Still_said call used finished ∷ rs) a = ap (λ (b : Bool). cond b (Some finished) (pending_in rs n)) (apart_test call n a.0) ∙ absent n rs a.1
+absent n (Still_said call used finished ∷ rs) a = ap (λ (b : Bool). cond b (Some finished) (pending_in rs n))
+    (apart_test call n a.0) ∙ absent n rs a.1
 absent n (Refused_said call ∷ rs) a = absent n rs a.1
 absent n (End_said ∷ rs) a = absent n rs a
 
@@ -101,12 +108,16 @@ IsNoted p (Refused_said call) = p call ≡ None
 IsNoted p End_said = ⊤
 
 others : (p : ℕ → Option ℕ) (call finished : ℕ) (rs : List Said) (ns : List ℕ) → AllByRecursion (Apart call) ns
-    → AllByRecursion (λ n. p n ≡ cond (call == n) (Some finished) (pending_in rs n)) ns → AllByRecursion (λ n. p n ≡ pending_in rs n) ns
+    → AllByRecursion (λ n. p n ≡ cond (call == n) (Some finished) (pending_in rs n)) ns
+    → AllByRecursion (λ n. p n ≡ pending_in rs n) ns
 others p call finished rs [] a e = tt
-others p call finished rs (n ∷ ns) a e =
-    (e.0 ∙ ap (λ (b : Bool). cond b (Some finished) (pending_in rs n)) (apart_test call n (λ same. a.0 (sym same))), others p call finished rs ns a.1 e.1)
+others p call finished rs (n ∷ ns) a e = (
+  e.0 ∙ ap (λ (b : Bool). cond b (Some finished) (pending_in rs n)) (apart_test call n (λ same. a.0 (sym same))),
+  others p call finished rs ns a.1 e.1,
+)
 
-noted : (p : ℕ → Option ℕ) (rs : List Said) → Distinct (flat_map said_call rs) → AllByRecursion (λ n. p n ≡ pending_in rs n) (flat_map said_call rs) → AllByRecursion (IsNoted p) rs
+noted : (p : ℕ → Option ℕ) (rs : List Said) → Distinct (flat_map said_call rs)
+    → AllByRecursion (λ n. p n ≡ pending_in rs n) (flat_map said_call rs) → AllByRecursion (IsNoted p) rs
 noted p [] d e = tt
 noted p (Bytes_said call bytes ∷ rs) d e = (e.0 ∙ absent call rs d.0, noted p rs d.1 e.1)
 noted p (Value_said call value ∷ rs) d e = (e.0 ∙ absent call rs d.0, noted p rs d.1 e.1)
@@ -121,5 +132,8 @@ every : (P : ℕ → Type 0) → ((n : ℕ) → P n) → (ns : List ℕ) → All
 every P f [] = tt
 every P f (n ∷ ns) = (f n, every P f ns)
 
-pub replies_noted : (rs : List Said) → Distinct (flat_map said_call rs) → AllByRecursion (IsNoted (get (pending_map rs))) rs
-replies_noted rs d = noted (get (pending_map rs)) rs d (every (λ n. get (pending_map rs) n ≡ pending_in rs n) (pending_gets rs) (flat_map said_call rs))
+pub replies_noted : (rs : List Said) → Distinct (flat_map said_call rs)
+    → AllByRecursion (IsNoted (get (pending_map rs))) rs
+replies_noted rs d =
+    noted (get (pending_map rs)) rs d (every (λ n. get (pending_map rs) n ≡ pending_in rs n) (pending_gets rs)
+    (flat_map said_call rs))

@@ -15,7 +15,8 @@ returns c = record {
   set = λ log n x. (context_fits (after_calls log n).objects x (state_fits log n)).set;
   open_lists = λ log n x.
       let o = (after_calls log n).objects in
-      list_fits o default_bindings (context_of o x).recorded (state_fits log n) (default_fits o) (context_fits o x (state_fits log n)).calls;
+      list_fits o default_bindings (context_of o x).recorded (state_fits log n) (default_fits o)
+      (context_fits o x (state_fits log n)).calls;
   live_lists = λ log n id cs e.
       let o = (after_calls log n).objects in
       list_fits o default_bindings cs (state_fits log n) (default_fits o) ((state_fits log n).lists id cs e);

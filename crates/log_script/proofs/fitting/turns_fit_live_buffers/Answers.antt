@@ -9,5 +9,7 @@ use Rattle.log_script.proofs.fitting.turns_fit_live_buffers.Goals as goal
 pub returns : goal.returns
 returns c = record {
   turns = turns_fit;
-  filled = λ log front call item ends play bound back e. (each_turn (λ n. TurnFits (before_call log n) n (shape_made log n)) log (turns_fit log) front (Item call item ends play bound) back e).1.filled;
+  filled = λ log front call item ends play bound back e. (each_turn
+      (λ n. TurnFits (before_call log n) n (shape_made log n)) log (turns_fit log) front
+      (Item call item ends play bound) back e).1.filled;
 }

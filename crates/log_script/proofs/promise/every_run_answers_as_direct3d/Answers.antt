@@ -14,9 +14,12 @@ returns c = record {
   runs = λ log. run_answers log (lawful log);
   reads = λ log. read_answers log (lawful log);
   reads_stand = read_of;
-  pending = λ log reading events core h. stills_right (meaning_of log) reading (script_of log) (lawful log) events core h;
+  pending = λ log reading events core h. stills_right (meaning_of log) reading (script_of log) (lawful log) events
+      core h;
   covered = λ log reading events core h.
-      listing_is_covered (meaning_of log) reading (script_of log) core (reached_kept (meaning_of log) reading (script_of log) (lawful log) events core h).good;
+      listing_is_covered (meaning_of log) reading (script_of log) core
+      (reached_kept (meaning_of log) reading (script_of log) (lawful log) events core h).good;
   idle = λ log reading events core h.
-      free_is_idle (meaning_of log) reading (script_of log) core (reached_kept (meaning_of log) reading (script_of log) (lawful log) events core h).good;
+      free_is_idle (meaning_of log) reading (script_of log) core
+      (reached_kept (meaning_of log) reading (script_of log) (lawful log) events core h).good;
 }
