@@ -1,0 +1,21 @@
+use Rattle.std.proofs.Common.{◌<◌, ◌≤◌, length, arith}
+use Rattle.vk_types.specs.declared.command.SlotName.TheVariants as slot
+use Rattle.d3d_model.specs.Memory.{constants_shown, constant_shown}
+use Rattle.d3d_state.specs.Meaning.{objects_of}
+use Rattle.item_work.proofs.ShownSlots.{length-shown, slot_more, slots_all}
+use Rattle.item_work.proofs.slots.push_constants.Goals as goal
+
+pub slots-preserved : goal.slots-preserved
+slots-preserved c =
+    let shown = constants_shown (objects_of c.args.objects.now) c.args.set.now c.args.declared.now in
+    let long = length-shown (constant_shown (objects_of c.args.objects.now)) c.args.declared.now 3 0 c.args.set.now.constants in
+    let below : c.slots.slot < length shown = omega (arith, long, c.has_all_slots.ensures.constants, c.slots-test.true) in
+    slot_more c.args.blocks.now slot.Constant shown c.slots.slot c.args.parts.now.items c.slots.parts.items c.push_slot.new.parts.items
+    c.constant_shown-shown.result below c.constant_shown-shown.ensures c.slots.invariant c.in_ok-push_slot.ensures
+
+pub returns : goal.returns
+returns c =
+    let shown = constants_shown (objects_of c.args.objects.now) c.args.set.now c.args.declared.now in
+    let long = length-shown (constant_shown (objects_of c.args.objects.now)) c.args.declared.now 3 0 c.args.set.now.constants in
+    let all : length shown ≤ c.slots.slot = omega (arith, long, c.has_all_slots.ensures.constants, c.slots-test.false) in
+    slots_all c.args.blocks.now slot.Constant shown c.slots.slot c.args.parts.now.items c.slots.parts.items all c.slots.invariant
