@@ -4,7 +4,7 @@ use crate::tasks::{ALL_TOUCHES, ALL_WRITES, ONE_GROUP, Op, Part, Task, listing, 
 use std::alloc::{AllocError, Global};
 use std::process::Abort;
 use std::test::Fail;
-use vk_order::{OrderEnd, Uncovered, allowed, covered, covered_by_index};
+use vk_order::{OrderEnd, Uncovered, allowed, allowed_by_index, covered, covered_by_index};
 use vk_types::{Access, Barrier, Mask, SlotName, VkOp};
 
 fn is_covered(ops: &[VkOp]) -> Result<Result<(), Uncovered>, Fail> {
@@ -27,6 +27,18 @@ fn is_allowed(ops: &[VkOp], order: &[u32]) -> Result<Result<(), OrderEnd>, Fail>
         return Err("too many operations".into());
     }
     Ok(allowed(ops, order))
+}
+
+fn is_allowed_by_index(
+    alloc: Global,
+    ops: &[VkOp],
+    order: &[u32],
+) -> Result<Result<(), OrderEnd>, Fail> {
+    if ops.len() > 1_000_000 {
+        return Err("too many operations".into());
+    }
+    let end = allowed_by_index(alloc, ops, order)?;
+    Ok(end)
 }
 
 struct Listing {
@@ -293,6 +305,8 @@ fn orders(rt: HostRuntime) -> Result<(), Fail> {
     assert_eq!(rt; ops.len(), 5);
     for row in &ORDERS {
         assert_eq!(rt; is_allowed(&ops, row.places)?, row.end, "{}", row.shows);
+        let by_index = is_allowed_by_index(rt.alloc(), &ops, row.places)?;
+        assert_eq!(rt; by_index, row.end, "{}", row.shows);
     }
     Ok(())
 }
@@ -320,6 +334,7 @@ fn allows(rt: &impl Abort, alloc: Global, count: u32, order: &[u32]) -> Result<(
     let ops = fills(alloc, count)?;
     assert_eq!(rt; ops.len(), count as usize);
     assert_eq!(rt; is_allowed(&ops, order)?, Ok(()));
+    assert_eq!(rt; is_allowed_by_index(alloc, &ops, order)?, Ok(()));
     Ok(())
 }
 

@@ -1,7 +1,7 @@
 -- Where each hazard of touches is covered between two places, the pair of acts is.
-use Rattle.std.proofs.Common.{◌≡◌, ℕ, zero, suc, ◌+◌, ◌-◌, ◌<◌, ◌≤◌, Bool, true, false, not, cond, ◌&&◌, ◌||◌, List, [], ◌∷◌, length, take, drop, Option, Some, None, is_some, slice_get, refl, sym, ap, subst, ◌∙◌, ◌⊎◌, inl, inr, arith}
+use Rattle.std.proofs.Common.{◌≡◌, ℕ, suc, ◌-◌, ◌<◌, Bool, true, false, not, cond, ◌&&◌, ◌||◌, List, [], ◌∷◌, Some, None, slice_get, refl, sym, ap, ◌∙◌, inl, inr}
 use Rattle.std.specs.List.{list_any}
-use Rattle.std.proofs.lemmas.Bool.{and_parts, both_ways, cases_Bool, or_cases}
+use Rattle.std.proofs.lemmas.Bool.{and_parts, cases_Bool, or_cases}
 use Rattle.vk_types.specs.declared.touch.Touch.{Touch}
 use Rattle.vk_types.specs.declared.command.Command.{Command}
 use Rattle.vk_types.specs.declared.op.Barrier.{Barrier}
@@ -9,7 +9,7 @@ use Rattle.vk_types.specs.declared.op.VkOp.{VkOp}
 use Rattle.vk_types.specs.declared.op.VkOp.TheVariants as op
 use Rattle.base_lemmas.specs.Lists.{all_pass}
 use Rattle.base_lemmas.proofs.Scan.{scan_hit}
-use Rattle.vk_types.specs.Hazards.{has_write, touches, touches_conflict, lists_conflict}
+use Rattle.vk_types.specs.Hazards.{has_write, touches_conflict, lists_conflict}
 use Rattle.vk_types.specs.Listing.{between}
 use Rattle.vk_types.specs.Before.{op_orders, barrier_orders}
 use Rattle.vk_types.specs.Covered.{each_pair, commands_visible, makes_visible, makes_host_visible, host_visible, op_barrier}
@@ -27,13 +27,13 @@ pub record Conflicting (ts us : List Touch) : Type 0 where
   pub second : slice_get us j ≡ Some u
   pub conflict : touches_conflict t u ≡ true
 
-record Hit {A : Type 0} (test : A → Bool) (xs : List A) : Type 0 where
-  i : ℕ
-  x : A
-  there : slice_get xs i ≡ Some x
-  passes : test x ≡ true
+pub record Hit {A : Type 0} (test : A → Bool) (xs : List A) : Type 0 where
+  pub i : ℕ
+  pub x : A
+  pub there : slice_get xs i ≡ Some x
+  pub passes : test x ≡ true
 
-any_hit : {A : Type 0} (test : A → Bool) (xs : List A) → list_any test xs ≡ true → Hit test xs
+pub any_hit : {A : Type 0} (test : A → Bool) (xs : List A) → list_any test xs ≡ true → Hit test xs
 any_hit test [] e = absurd (cc e)
 any_hit test (x ∷ xs) e =
     elim (or_cases (test x) (list_any test xs) e) [

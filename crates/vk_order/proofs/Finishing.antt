@@ -1,16 +1,15 @@
 -- The fences that finish commands, found from a listing's end.
-use Rattle.std.proofs.Common.{◌≡◌, ◌≢◌, ℕ, zero, suc, ◌+◌, ◌-◌, ◌<◌, ◌≤◌, List, [], ◌∷◌, ◌++◌, length, take, drop, Option, Some, None, slice_get, slice_index, refl, sym, ap, subst, ◌∙◌, ◌⊎◌, inl, inr, arith}
-use Rattle.std.proofs.lemmas.Bool.{cases_eq, cases_lt}
+use Rattle.std.proofs.Common.{◌≡◌, ℕ, zero, suc, ◌≤◌, List, [], ◌∷◌, ◌++◌, length, take, drop, Option, Some, None, slice_get, slice_index, refl, sym, ap, subst, ◌∙◌, ◌⊎◌, inl, inr, arith}
+use Rattle.std.proofs.lemmas.Bool.{cases_eq}
 use Rattle.std.proofs.lemmas.List.{drop_all}
 use Rattle.std.proofs.lemmas.Option.{slice_get_within}
 use Rattle.vk_types.specs.declared.command.Command.{Command}
 use Rattle.vk_types.specs.declared.op.VkOp.{VkOp}
 use Rattle.vk_types.specs.declared.op.VkOp.TheVariants as op
 use Rattle.vk_types.specs.Listing.{first_submit, submission_of}
-use Rattle.vk_order.specs.declared.finish.TheConstants.{NEVER}
 use Rattle.vk_order.specs.declared.finish.FenceAt.{FenceAt}
 use Rattle.vk_order.specs.declared.finish.Finishes.{Finishes}
-use Rattle.vk_order.specs.Finish.{Finished, FinishesHold, HasFence, IsFinish, IsFinishIf, IsFinishStep, IsFinishedBy, submitted_after}
+use Rattle.vk_order.specs.Finish.{FinishesHold, HasFence, IsFinishIf, IsFinishStep, IsFinishedBy, submitted_after}
 
 -- an element of the front and one more
 pub among_taken : {A : Type 0} (xs : List A) (n i : ℕ) (x y : A) → slice_get (take n xs ++ x ∷ []) i ≡ Some y → (y ≡ x) ⊎ ((j : ℕ) × (slice_get xs j ≡ Some y))

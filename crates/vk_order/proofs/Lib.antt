@@ -15,3 +15,6 @@ pub mod Sweep
 pub mod Finishing
 pub mod Places
 pub mod Touching
+pub mod Kept
+pub mod Rows
+pub mod Marks

@@ -1,25 +1,23 @@
 -- What an index knows stays true as operations are noted.
-use Rattle.std.proofs.Common.{◌≡◌, ◌≢◌, ℕ, zero, suc, ◌+◌, ◌<◌, ◌≤◌, max, Bool, true, false, List, [], ◌∷◌, ◌++◌, length, Option, Some, None, slice_get, slice_index, refl, sym, ap, subst, ◌∙◌, ◌⊎◌, inl, inr, get_or, arith}
-use Rattle.std.proofs.lemmas.Bool.{cases_eq, cases_lt}
+use Rattle.std.proofs.Common.{◌≡◌, ℕ, ◌+◌, ◌<◌, ◌≤◌, Bool, List, length, Some, slice_get, slice_index, refl, sym, ap, subst, ◌∙◌, ◌⊎◌, inl, inr, get_or, arith}
+use Rattle.std.proofs.lemmas.Bool.{cases_lt}
 use Rattle.std.proofs.lemmas.Option.{slice_get_within, slice_get-get_or}
 use Rattle.vk_types.specs.declared.touch.Touch.{Touch}
 use Rattle.vk_types.specs.declared.command.Command.{Command}
 use Rattle.vk_types.specs.declared.op.Barrier.{Barrier}
 use Rattle.vk_types.specs.declared.op.VkOp.{VkOp}
 use Rattle.vk_types.specs.declared.op.VkOp.TheVariants as op
-use Rattle.vk_types.specs.Hazards.{touches}
 use Rattle.vk_order.specs.declared.classes.Second.{Second}
 use Rattle.vk_order.specs.declared.classes.Stages.{Stages}
 use Rattle.vk_order.specs.declared.layers.Layer.{Layer}
 use Rattle.vk_order.specs.declared.index.Index.{Index}
 use Rattle.vk_order.specs.declared.tree.Reach.{Reach}
 use Rattle.vk_order.specs.declared.tree.MaxTree.{MaxTree}
-use Rattle.vk_order.specs.declared.cuts.Cut.{Cut}
 use Rattle.vk_order.specs.Classes.{covers, shows_host, stages_of}
 use Rattle.vk_order.specs.Cuts.{IsReach}
-use Rattle.vk_order.specs.Layers.{HasBarrier, IsLast, AreLasts, HasPassed, IsPassed, WasPassed, ArePassed}
+use Rattle.vk_order.specs.Layers.{IsLast, AreLasts, HasPassed, WasPassed}
 use Rattle.vk_order.specs.Index.{IsSound, IsNotedOver, HasTouch, AreNoted, IsStillThere, HasNoLasts, WasThere, IndexGrew, IndexPassed, IsNoted, IndexHolds}
-use Rattle.vk_order.specs.Tree.{HasMark, MarksGrew}
+use Rattle.vk_order.specs.Tree.{MarksGrew}
 use Rattle.vk_order.proofs.Trees.{tree_grew, tree_same, tree_more}
 
 -- Touches that are noted stay so -----------------------------------------------------------------------------------------

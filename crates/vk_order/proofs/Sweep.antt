@@ -1,7 +1,7 @@
 -- An operation that an index finds clear has no hazard with an earlier one that isn't covered.
-use Rattle.std.proofs.Common.{◌≡◌, ℕ, zero, suc, ◌+◌, ◌-◌, ◌<◌, ◌≤◌, ◌^◌, max, Bool, true, false, not, cond, ◌&&◌, ◌||◌, List, [], ◌∷◌, length, Option, Some, None, is_some, IsSome, IfSome, get_or, slice_get, slice_index, refl, sym, ap, subst, ◌∙◌, ◌⊎◌, inl, inr, arith}
+use Rattle.std.proofs.Common.{◌≡◌, ℕ, zero, suc, ◌+◌, ◌<◌, ◌≤◌, ◌^◌, Bool, true, false, not, cond, ◌&&◌, ◌||◌, List, [], ◌∷◌, length, Option, Some, None, is_some, IsSome, IfSome, get_or, slice_get, slice_index, refl, sym, ap, subst, ◌∙◌, ◌⊎◌, inl, inr, arith}
 use Rattle.std.specs.List.{list_any}
-use Rattle.std.proofs.lemmas.Bool.{and_parts, both_ways, cases_Bool, cases_lt, or_cases, le-leb}
+use Rattle.std.proofs.lemmas.Bool.{and_parts, cases_lt, or_cases, le-leb}
 use Rattle.std.proofs.lemmas.Option.{slice_get_within, slice_get-get_or}
 use Rattle.dx_types.specs.declared.range.Range.{Range}
 use Rattle.vk_types.specs.declared.access.Stage.{Stage}
@@ -10,24 +10,21 @@ use Rattle.vk_types.specs.declared.command.Command.{Command}
 use Rattle.vk_types.specs.declared.op.Barrier.{Barrier}
 use Rattle.vk_types.specs.declared.op.VkOp.{VkOp}
 use Rattle.vk_types.specs.declared.op.VkOp.TheVariants as op
-use Rattle.base_lemmas.specs.Lists.{all_pass}
 use Rattle.vk_types.specs.Memory.{meets}
 use Rattle.vk_types.specs.Hazards.{has_write, touches, touches_conflict, lists_conflict, host_read_touch, host_write_touch}
-use Rattle.vk_types.specs.Listing.{between, op_touches, submission_of}
+use Rattle.vk_types.specs.Listing.{between, submission_of}
 use Rattle.vk_types.specs.Before.{op_finishes, op_orders, is_fenced, side, sides_ordered}
-use Rattle.vk_types.specs.Covered.{each_pair, commands_visible, host_visible, uncovered, visible}
+use Rattle.vk_types.specs.Covered.{each_pair, commands_visible, host_visible, uncovered}
 use Rattle.vk_order.specs.declared.layers.Layer.{Layer}
 use Rattle.vk_order.specs.declared.index.Index.{Index}
-use Rattle.vk_order.specs.declared.tree.Reach.{Reach}
-use Rattle.vk_order.specs.declared.finish.TheConstants.{NEVER}
-use Rattle.vk_order.specs.Classes.{asks, covers, first_of, second_of, shows_host, stages_of, written_stage}
-use Rattle.vk_order.specs.Finish.{AreFinished, Finished, IsFinishedBy}
+use Rattle.vk_order.specs.Classes.{asks, covers, first_of, second_of, shows_host, stages_of}
+use Rattle.vk_order.specs.Finish.{AreFinished, IsFinishedBy}
 use Rattle.vk_order.specs.Layers.{HasBarrier, IsLast, last_of}
 use Rattle.vk_order.specs.Index.{AreClear, HasTouch, IndexHolds, IsClear, IsReadClear, IsTouchClear, IsWriteClear}
 use Rattle.vk_order.specs.Tree.{HasMark}
 use Rattle.vk_order.proofs.Closing.{conflicting, pass_pairs, any_between, CoveredBetween, orders_between, visible_between, ShownBetween, host_visible_between}
-use Rattle.vk_order.proofs.CutOrder.{Shared, reaches_meet}
-use Rattle.vk_order.proofs.Open.{backward, open_pair, others_closed, past_end, uncovered_at}
+use Rattle.vk_order.proofs.CutOrder.{reaches_meet}
+use Rattle.vk_order.proofs.Open.{backward, open_pair, others_closed, uncovered_at}
 
 asks_of : (c : Command) (t u : Touch) → touches_conflict t u ≡ true → asks (first_of (stages_of c) t) u ≡ true
 asks_of c t u e = by (has_write t.access) refl (and_parts (has_write t.access || has_write u.access) (meets t.range u.range) e).0

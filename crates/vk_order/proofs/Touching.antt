@@ -1,7 +1,7 @@
 -- One touch more in an index.
-use Rattle.std.proofs.Common.{◌≡◌, ◌≢◌, ℕ, zero, suc, ◌+◌, ◌<◌, ◌≤◌, max, List, [], ◌∷◌, ◌++◌, length, Some, None, slice_get, slice_index, refl, sym, ap, subst, ◌∙◌, ◌⊎◌, inl, inr, arith}
+use Rattle.std.proofs.Common.{◌≡◌, ℕ, zero, suc, ◌+◌, ◌<◌, ◌≤◌, List, [], ◌∷◌, ◌++◌, Some, slice_get, slice_index, refl, sym, ap, subst, ◌∙◌, ◌⊎◌, inl, inr, arith}
 use Rattle.std.proofs.Math.ListN.{set}
-use Rattle.std.proofs.lemmas.Bool.{cases_eq, cases_lt}
+use Rattle.std.proofs.lemmas.Bool.{cases_eq}
 use Rattle.std.proofs.lemmas.Option.{slice_get_within}
 use Rattle.vk_order.specs.declared.classes.First.{First}
 use Rattle.vk_order.specs.declared.classes.Second.{Second}
@@ -11,10 +11,10 @@ use Rattle.vk_order.specs.declared.tree.Reach.{Reach}
 use Rattle.vk_order.specs.declared.tree.MaxTree.{MaxTree}
 use Rattle.vk_order.specs.declared.cuts.Cut.{Cut}
 use Rattle.vk_order.specs.Tree.{IsTree, MarksGrew}
-use Rattle.vk_order.specs.Layers.{AreRaisedAt, ArePassed, HasFirst, IsFresh, IsPassed, IsRaised, PushedFresh, WasPassed}
+use Rattle.vk_order.specs.Layers.{AreRaisedAt, ArePassed, HasFirst, IsPassed, PushedFresh, WasPassed}
 use Rattle.vk_order.specs.Index.{HasNoLasts, IsNotedOver, IsOver, IsStillThere, WasThere, width_of}
 use Rattle.vk_order.proofs.Places.{get_set_other, get_set_same}
-use Rattle.vk_order.proofs.Trees.{tree_same, tree_more}
+use Rattle.vk_order.proofs.Trees.{tree_same}
 
 -- Each layer's tree is over the cuts -----------------------------------------------------------------------------------
 

@@ -7,3 +7,4 @@ pub mod Cuts
 pub mod Finish
 pub mod Layers
 pub mod Index
+pub mod Turns

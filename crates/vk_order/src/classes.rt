@@ -73,7 +73,7 @@ pub fn second_of(stages: Stages, u: &Touch) -> Second
     }
 }
 
-fn are_stages(a: &Stages, b: &Stages) -> bool
+pub fn are_stages(a: &Stages, b: &Stages) -> bool
     ensures { result ≡ true → a.now ≡ b.now }
 {
     *a == *b

@@ -10,12 +10,15 @@ mod hazards;
 mod index;
 mod layers;
 mod order;
+mod order_by_index;
 mod ordered;
 mod touches;
 mod tree;
+mod turns;
 mod visible;
 
 pub use by_index::covered_by_index;
 pub use hazards::{Uncovered, covered};
 pub use order::{OrderEnd, allowed};
+pub use order_by_index::allowed_by_index;
 pub use touches::{touch_count, touch_of};

@@ -59,7 +59,7 @@ fn is_before(ops: &[VkOp], x: usize, y: usize) -> bool
     pair_is_before(&ops[x + 1..], &ops[x + 1..y], &ops[x], &ops[y])
 }
 
-fn is_act_at(ops: &[VkOp], place: u32) -> bool
+pub fn is_act_at(ops: &[VkOp], place: u32) -> bool
     ensures { result ≡ is_act_in (slice_get ops.now place) }
 {
     match ops.get(place as usize) {
@@ -99,7 +99,7 @@ fn first_odd(ops: &[VkOp], order: &[u32]) -> usize
     order.len()
 }
 
-fn act_count(ops: &[VkOp]) -> usize
+pub fn act_count(ops: &[VkOp]) -> usize
     ensures { result ≡ length (acts ops.now) }
 {
     let mut count = 0;
@@ -124,7 +124,7 @@ fn late(order: &[u32], place: u32) -> &[u32]
 }
 
 // The least place that the listing orders before the second, and that stands behind it in the order; else the second.
-fn least_broken(ops: &[VkOp], order: &[u32], second: usize) -> usize
+pub fn least_broken(ops: &[VkOp], order: &[u32], second: usize) -> usize
     requires there { second < length ops.now }
     requires few { second < 2 ^ 32 }
     ensures within { result ≤ second }
@@ -142,7 +142,7 @@ fn least_broken(ops: &[VkOp], order: &[u32], second: usize) -> usize
 }
 
 // Whether each place is greater than those before it.
-fn rises(order: &[u32]) -> bool
+pub fn rises(order: &[u32]) -> bool
     ensures { result ≡ true → Pairwise (λ p q. p < q) order.now }
 {
     let mut past = 0;
@@ -155,7 +155,7 @@ fn rises(order: &[u32]) -> bool
     true
 }
 
-fn first_broken(ops: &[VkOp], order: &[u32]) -> Result<(), OrderEnd>
+pub fn first_broken(ops: &[VkOp], order: &[u32]) -> Result<(), OrderEnd>
     requires few { length ops.now < 2 ^ 32 }
     requires whole { IsReordering (acts ops.now) order.now }
     ensures ok { IsOk result ↔ IsAllowed ops.now order.now }

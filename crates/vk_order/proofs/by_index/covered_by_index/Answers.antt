@@ -1,11 +1,10 @@
-use Rattle.std.proofs.Common.{◌≡◌, ℕ, ◌+◌, ◌<◌, Some, slice_get, slice_index, refl, sym, ap, subst, ◌∙◌, inl, inr, length, false, below_more, arith}
-use Rattle.std.proofs.lemmas.Bool.{cases_lt}
+use Rattle.std.proofs.Common.{◌≡◌, ℕ, ◌+◌, Some, slice_get, slice_index, refl, sym, ap, subst, ◌∙◌, below_more, arith}
 use Rattle.std.proofs.lemmas.Option.{slice_get-get_or}
 use Rattle.vk_types.specs.declared.op.VkOp.{VkOp}
 use Rattle.std.proofs.lemmas.Grind.{get_or_default_zero}
 use Rattle.vk_order.specs.Index.{IsNoted}
 use Rattle.vk_order.proofs.Open.{all_seconds}
-use Rattle.vk_order.proofs.Noting.{holds_first, holds_next}
+use Rattle.vk_order.proofs.Noting.{holds_next}
 use Rattle.vk_order.proofs.by_index.covered_by_index.Goals as goal
 
 pub index-requires : goal.index-requires

@@ -1,6 +1,5 @@
-use Rattle.std.proofs.Common.{◌≡◌, ℕ, ◌<◌, false, length}
+use Rattle.std.proofs.Common.{◌≡◌, ℕ, ◌<◌, false}
 use Rattle.vk_types.specs.Covered.{uncovered}
-use Rattle.vk_order.specs.Finish.{AreFinished}
 use Rattle.vk_order.specs.Index.{IndexHolds}
 use Rattle.vk_order.proofs.by_index.covered_by_index.Given as goal
 

@@ -1,4 +1,4 @@
-use Rattle.std.proofs.Common.{◌∙◌, sym, below_more, arith}
+use Rattle.std.proofs.Common.{◌∙◌, sym, below_more}
 use Rattle.vk_order.proofs.by_index.least_open.Goals as goal
 
 pub loop-first-preserved : goal.loop-first-preserved

@@ -1,4 +1,4 @@
-use Rattle.std.proofs.Common.{◌≡◌, true, false, Some, slice_get, subst, ap, ◌∙◌}
+use Rattle.std.proofs.Common.{◌≡◌, true, false, Some, subst, ap, ◌∙◌}
 use Rattle.vk_order.specs.declared.cuts.Cut.{Cut}
 use Rattle.vk_order.specs.Cuts.{precedes}
 use Rattle.vk_order.proofs.CutOrder.{found_reach}

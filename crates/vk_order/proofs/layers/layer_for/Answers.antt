@@ -1,4 +1,4 @@
-use Rattle.std.proofs.Common.{◌≡◌, ◌++◌, ◌∷◌, [], Some, slice_get, inr, ap, ◌∙◌}
+use Rattle.std.proofs.Common.{slice_get, inr, ap, ◌∙◌}
 use Rattle.vk_order.proofs.Places.{get_last}
 use Rattle.vk_order.proofs.layers.layer_for.Goals as goal
 

@@ -1,4 +1,4 @@
-use Rattle.std.proofs.Common.{◌≡◌, ℕ, ◌<◌, ◌≤◌, Some, slice_get, length}
+use Rattle.std.proofs.Common.{◌≡◌, ℕ, ◌<◌, ◌≤◌, Some, slice_get}
 use Rattle.vk_order.specs.declared.layers.Layer.{Layer}
 use Rattle.vk_order.specs.Layers.{WasPassed}
 use Rattle.vk_order.proofs.layers.pass_layers.Given as goal

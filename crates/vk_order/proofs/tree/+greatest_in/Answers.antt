@@ -1,4 +1,4 @@
-use Rattle.std.proofs.Common.{◌≤◌, arith}
+use Rattle.std.proofs.Common.{arith}
 use Rattle.vk_order.proofs.Trees.{halves_at_most, marked_top}
 use Rattle.vk_order.proofs.tree.+greatest_in.Goals as goal
 

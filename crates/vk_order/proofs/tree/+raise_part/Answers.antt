@@ -1,7 +1,6 @@
-use Rattle.std.proofs.Common.{◌≡◌, ℕ, ◌<◌, ◌≤◌, ◌*◌, ◌+◌, length, get_or, sym, ap, subst, ◌∙◌, inl, inr, rules, arith}
+use Rattle.std.proofs.Common.{◌≡◌, ℕ, ◌<◌, ◌*◌, ◌+◌, length, get_or, sym, ap, subst, ◌∙◌, inl, inr, rules, arith}
 use Rattle.std.proofs.Math.ListN.{set}
 use Rattle.std.proofs.lemmas.List.{get_or-set_same, length-set}
-use Rattle.std.proofs.lemmas.Grind.{common_steps}
 use Rattle.vk_order.specs.declared.tree.Part.{Part}
 use Rattle.vk_order.specs.Tree.{Grew, IsNode, marked_here}
 use Rattle.vk_order.proofs.Trees.{grew_more, grew_set, halves_noted, node_left, node_right, tops_best, tops_mark, under_grew, under_set}

@@ -1,12 +1,11 @@
-use Rattle.std.proofs.Common.{◌≡◌, ℕ, ◌+◌, ◌<◌, ◌≤◌, Some, None, slice_get, sym, ap, subst, ◌∙◌, ◌⊎◌, inl, inr, arith}
-use Rattle.std.proofs.lemmas.Bool.{cases_lt}
+use Rattle.std.proofs.Common.{◌≡◌, ℕ, ◌+◌, ◌<◌, Some, slice_get, sym, subst, ◌∙◌, arith}
 use Rattle.std.proofs.lemmas.Option.{slice_get_within}
 use Rattle.vk_types.specs.declared.touch.Touch.{Touch}
 use Rattle.vk_types.specs.Hazards.{touches}
 use Rattle.vk_order.specs.declared.classes.Stages.{Stages}
 use Rattle.vk_order.specs.declared.index.Index.{Index}
 use Rattle.vk_order.specs.Index.{HasTouch, IndexGrew, IsSound}
-use Rattle.vk_order.proofs.Noting.{index_more, index_same, touch_grew, touches_more, touches_end}
+use Rattle.vk_order.proofs.Noting.{index_more, index_same, touches_more, touches_end}
 use Rattle.vk_order.proofs.index.Index.note_command.Goals as goal
 use Rattle.vk_order.proofs.index.Index.note_command.Goals.{in-Some+in_ok-note_touch, in_default}
 

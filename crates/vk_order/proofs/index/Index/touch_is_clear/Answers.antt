@@ -1,4 +1,4 @@
-use Rattle.std.proofs.Common.{◌≡◌, ℕ, ◌<◌, List, length, Option, Some, IfSome, slice_get, subst, arith}
+use Rattle.std.proofs.Common.{◌≡◌, List, Some, IfSome, slice_get, subst, arith}
 use Rattle.std.proofs.lemmas.Option.{slice_get_within}
 use Rattle.vk_order.specs.declared.classes.Second.{Second}
 use Rattle.vk_order.specs.declared.cuts.Cut.{Cut}

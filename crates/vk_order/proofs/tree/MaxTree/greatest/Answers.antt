@@ -1,4 +1,4 @@
-use Rattle.std.proofs.Common.{◌≤◌, arith}
+use Rattle.std.proofs.Common.{arith}
 use Rattle.vk_order.proofs.tree.MaxTree.greatest.Goals as goal
 
 pub greatest_in-requires-clause-node : goal.greatest_in-requires-clause-node

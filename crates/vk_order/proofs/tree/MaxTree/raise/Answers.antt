@@ -1,4 +1,4 @@
-use Rattle.std.proofs.Common.{◌≤◌, arith}
+use Rattle.std.proofs.Common.{arith}
 use Rattle.vk_order.proofs.tree.MaxTree.raise.Goals as goal
 
 pub raise_part-requires-clause-node : goal.raise_part-requires-clause-node
