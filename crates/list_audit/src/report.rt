@@ -11,7 +11,7 @@ use crate::reading::{read_front, read_last};
 use crate::sharing::shared_bytes;
 use dx_types::Range;
 use std::alloc::{AllocError, Global};
-use vk_order::{OrderEnd, Uncovered, allowed, covered_by_index};
+use vk_order::{OrderEnd, Uncovered, allowed_by_index, covered_by_index};
 use vk_types::VkOp;
 
 /// What an audit says: the first pair that is not covered, if there is one, with the bytes that its first conflicting touches
@@ -23,14 +23,19 @@ pub struct Report {
     pub order: Option<Result<(), OrderEnd>>,
 }
 
-fn verdict(ops: &[VkOp], order: &Option<Vec<u32>>) -> Option<Result<(), OrderEnd>>
+fn verdict(
+    alloc: Global,
+    ops: &[VkOp],
+    order: &Option<Vec<u32>>,
+) -> Result<Option<Result<(), OrderEnd>>, AllocError>
     requires { length ops.now < 2 ^ 32 }
-    ensures { IsVerdictIf ops.now (option_map (λ v. v.items) order.now) result }
+    ensures { IfOk result (IsVerdictIf ops.now (option_map (λ v. v.items) order.now)) }
 {
-    match order {
-        Some(places) => Some(allowed(ops, places)),
-        None => None,
-    }
+    let Some(places) = order else {
+        return Ok(None);
+    };
+    let verdict = allowed_by_index(alloc, ops, places)?;
+    Ok(Some(verdict))
 }
 
 // The first hazard that is not covered, if there is one.
@@ -59,10 +64,11 @@ fn report_on(alloc: Global, ops: &[VkOp], order: &Option<Vec<u32>>) -> Result<Re
     ensures { IfOk result (Reports ops.now (option_map (λ v. v.items) order.now)) }
 {
     let pair = hazard(alloc, ops)?;
+    let order = verdict(alloc, ops, order)?;
     Ok(Report {
         pair,
         shared: shared(ops, &pair),
-        order: verdict(ops, order),
+        order,
     })
 }
 
