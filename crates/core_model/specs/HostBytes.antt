@@ -1,5 +1,6 @@
 -- What the host writes of a script, in the order of its items.
-use Rattle.std.specs.Prelude.{ℕ, List, [], ◌∷◌, ◌++◌}
+use Rattle.std.specs.Prelude.{◌≡◌, ℕ, ◌<◌, List, [], ◌∷◌, ◌++◌}
+use Rattle.std.specs.List.{AllByRecursion}
 use Rattle.core_model.specs.Script.{Play, Create, Discard, No_overwrite, Stage, Command, Destroy, Create_shader}
 use Rattle.core_model.specs.Script.{Mark_query, Set_state, Turn, Refused, Passed, Flushed, Asked, Item, Script}
 use Rattle.core_model.specs.Script.{padded}
@@ -29,6 +30,15 @@ turn_bytes script (Passed call) = []
 turn_bytes script (Flushed call) = []
 turn_bytes script (Asked call ask used may_pend) = []
 turn_bytes script (Item call item ends play bound) = play_bytes script play
+
+-- each of these numbers is a byte
+abbrev pub AreBytes : List ℕ → Type 0
+AreBytes bytes = AllByRecursion (λ b. b < 256) bytes
+
+-- the host's data of each item is of bytes
+abbrev pub HasBytes : Script → Type 0
+HasBytes script = (front : List Turn) (t : Turn) (back : List Turn) → script.turns ≡ front ++ t ∷ back
+    → AllByRecursion AreBytes (turn_bytes script t)
 
 -- the byte lists of these turns
 abbrev pub bytes_of : Script → List Turn → List (List ℕ)

@@ -16,6 +16,12 @@ chooses_first Any_choices = false
 chooses_first First_choices = true
 chooses_first In_threads = false
 
+-- a page that came back has the length that it had. In threads a post may have pages of any lengths that suffice
+abbrev pub keeps_pages : Reading → Bool
+keeps_pages Any_choices = true
+keeps_pages First_choices = true
+keeps_pages In_threads = false
+
 -- a queue, or the device, has a place for one more
 abbrev pub has_place : Reading → ℕ → Bool
 has_place Any_choices held = nat_lt held 4

@@ -11,4 +11,5 @@ pub mod AgreeingPlays
 pub mod AgreeingLists
 pub mod AgreeingLogs
 pub mod AgreeingReplies
+pub mod SlotsOfBytes
 pub mod Modules

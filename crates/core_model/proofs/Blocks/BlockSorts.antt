@@ -216,7 +216,7 @@ stages_sort choice len s before after (On_newest _ _ n e fits) number fence own 
       off =
           λ m h. page_off m (own n.page.block) p h;
     }
-stages_sort choice len s before after (On_spare _ _ front p back e long none) number fence own newest spare fresh =
+stages_sort choice len s before after (On_spare _ _ front p back size e long none) number fence own newest spare fresh =
     let is : AllByRecursion (λ p. own p.block ≡ Spare) (p ∷ back) =
     all_back (λ p. own p.block ≡ Spare) front (p ∷ back)
     (subst (AllByRecursion (λ p. own p.block ≡ Spare)) e spare) in

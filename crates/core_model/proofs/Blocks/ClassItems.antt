@@ -71,7 +71,7 @@ page_stands : (choice : PageChoice) (len : ℕ) (s : Staged) (before after : Poo
     → (owner : ℕ → Owner) (n fence : ℕ) → AllByRecursion (λ p. owner p.block ≡ Spare) before.spare
     → owner before.next ≡ Unmade → stand (page_owner n fence s.added (owner s.block)) ≡ stand (owner s.block)
 page_stands choice len s before after (On_newest _ _ top is fits) owner n fence spare fresh = refl
-page_stands choice len s before after (On_spare _ _ front p back is long none) owner n fence spare fresh =
+page_stands choice len s before after (On_spare _ _ front p back size is long none) owner n fence spare fresh =
     let was : AllByRecursion (λ p. owner p.block ≡ Spare) (p ∷ back) =
     all_back (λ p. owner p.block ≡ Spare) front (p ∷ back)
     (subst (AllByRecursion (λ p. owner p.block ≡ Spare)) is spare) in

@@ -16,6 +16,7 @@ use Rattle.core_model.specs.CoreState.{Page, Owner, Unmade, Home, Returning, Spa
 use Rattle.core_model.specs.CoreState.{Board, Newest, Pool, Core, later, taken_count, finished_count, open_number}
 use Rattle.core_model.specs.Owners.{in_ranges, bind_owner}
 use Rattle.core_model.specs.Placing.{PageChoice, Staged, Stages, On_newest, On_spare, On_new, fresh_page}
+use Rattle.core_model.specs.Placing.{with_length}
 use Rattle.core_model.specs.Adding.{add_staging, staged_range}
 use Rattle.core_model.specs.Stands.{Stands}
 use Rattle.core_model.specs.Lawful.{resets, bound_by, is_bound, Fits}
@@ -105,7 +106,7 @@ page_put choice len s before after (On_newest _ _ n e fits) board own fence numb
       apart = subst AreApart (sym (append-nil pages)) apart;
       top = (record n { used = n.used + len }, refl, refl, refl);
     }
-page_put choice len s before after (On_spare _ _ front q back e long none) board own fence number page pages p
+page_put choice len s before after (On_spare _ _ front q back size e long none) board own fence number page pages p
     newest taken is opened apart =
     let block = q.block in
     let spare : AllByRecursion (λ p. own p.block ≡ Spare) (front ++ q ∷ back) =
@@ -118,7 +119,8 @@ page_put choice len s before after (On_spare _ _ front q back e long none) board
     let later : Pairwise R (q ∷ back) = pairs_back R front (q ∷ back) apart_all in
     let not_page : (m : ℕ) → IsPageOf m (own block) → ⊥ = λ m h. subst (IsPageOf m) was h in
     record {
-      places = page_places board before (Some (record { page = q; used = len })) own fence block page taken p
+      places = page_places board before (Some (record { page = with_length q size; used = len })) own fence block
+          page taken p
           (λ k h. let z : Spare ≡ Home k = sym was ∙ h in cc z) (λ h. let z : Spare ≡ Unmade = sym was
           ∙ h in cc z) (front ++ back)
           (all_append (λ p. (own p.block ≡ Spare) × (p.block ≡ block → ⊥)) front back
@@ -130,15 +132,15 @@ page_put choice len s before after (On_spare _ _ front q back e long none) board
           (pairs_without R q front back apart_all);
       strange = λ m l h. not_page m h;
       opened =
-          all_append (λ p. IsPageOf number (updated block page own p.block)) pages (q ∷ [])
+          all_append (λ p. IsPageOf number (updated block page own p.block)) pages (with_length q size ∷ [])
           (all_map (λ p. IsPageOf number (own p.block)) (λ p. IsPageOf number (updated block page own p.block))
           (λ p h. kept_both block page own (IsPageOf number) is p.block h) pages opened)
           (subst (IsPageOf number) (sym (given_here block page own block refl)) is, tt);
       apart =
-          pairs_append R pages (q ∷ []) apart (tt, tt)
-          (all_map (λ p. IsPageOf number (own p.block)) (λ p. AllByRecursion (R p) (q ∷ []))
+          pairs_append R pages (with_length q size ∷ []) apart (tt, tt)
+          (all_map (λ p. IsPageOf number (own p.block)) (λ p. AllByRecursion (R p) (with_length q size ∷ []))
           (λ p h. ((λ t. not_page number (subst (λ b. IsPageOf number (own b)) t h)), tt)) pages opened);
-      top = (record { page = q; used = len }, refl, refl, (let z : len ≡ 0 + len = omega arith in z));
+      top = (record { page = with_length q size; used = len }, refl, refl, (let z : len ≡ 0 + len = omega arith in z));
     }
 page_put choice len s before after (On_new _ _ none) board own fence number page pages p newest taken is opened apart =
     let block = before.next in

@@ -21,6 +21,7 @@ use Rattle.core_model.specs.AppActs.{is_finished, TakesTurn, handed_over, Acts}
 use Rattle.core_model.specs.TakingPosts.{TakesPosts, with_post, with_fence}
 use Rattle.core_model.specs.Runs.{App_acts, IsEnabled}
 use Rattle.core_model.proofs.Ends.Deciding.{Decided}
+use Rattle.core_model.proofs.Steps.Segments.{get_middle}
 
 -- Blocks and pages --------------------------------------------------------------------------------------------------
 
@@ -109,12 +110,23 @@ page_for len pool = by pool.newest refl
     not_newest f = elim (long_page 0 len [] pool.spare refl) [
       | inl x ↦
           let same : first_page len pool ≡ Spare_page (length x.0) =
-          ap (λ c. cond c Newest_page (first_long 0 len pool.spare)) f ∙ x.5 in
-          (_, _, (Spare_page (length x.0), On_spare len pool x.0 x.1 x.2 x.3 x.4 f, λ h. sym same))
+          ap (λ c. cond c Newest_page (first_long 0 len pool.spare)) f ∙ x.5 in (
+            _,
+            _,
+            (
+              Spare_page (length x.0),
+              On_spare len pool x.0 x.1 x.2 x.1.len x.3 x.4 f,
+              (λ h. sym same),
+              λ h. (
+                ap (λ l. slice_get l (length x.0)) x.3 ∙ get_middle x.0 x.1 x.2,
+                tt,
+              ),
+            ),
+          )
       | inr x ↦
           let same : first_page len pool ≡ New_page = ap (λ c. cond c Newest_page (first_long 0 len pool.spare)) f
           ∙ x in
-          (_, _, (New_page, On_new len pool f, λ h. sym same))
+          (_, _, (New_page, On_new len pool f, (λ h. sym same), λ h. tt))
     ]
 
     by : (o : Option Newest) → pool.newest ≡ o → (s : Staged) × (new : Pool) × StagesBytes First_choices len s pool new
@@ -123,7 +135,7 @@ page_for len pool = by pool.newest refl
       | inl t ↦
           let same : first_page len pool ≡ Newest_page = ap (λ c. cond c Newest_page (first_long 0 len pool.spare))
           (ap (newest_fits len) e ∙ t) in
-          (_, _, (Newest_page, On_newest len pool n e t, λ h. sym same))
+          (_, _, (Newest_page, On_newest len pool n e t, (λ h. sym same), λ h. tt))
       | inr f ↦ not_newest (ap (newest_fits len) e ∙ f)
     ]
 

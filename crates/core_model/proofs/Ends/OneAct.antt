@@ -11,7 +11,7 @@ use Rattle.core_model.specs.Owners.{retired}
 use Rattle.core_model.specs.CoreState.{Pool, Board, Core, open_number}
 use Rattle.core_model.specs.Readings.{First_choices}
 use Rattle.core_model.specs.Placing.{BlockChoice, Takes, From_home, New_made, TakesBlock, Staged, PageChoice, Stages}
-use Rattle.core_model.specs.Placing.{On_newest, On_spare, On_new, StagesBytes}
+use Rattle.core_model.specs.Placing.{On_newest, On_spare, On_new, with_length, KeepsLength, StagesBytes}
 use Rattle.core_model.specs.Adding.{with_turn, with_write, fenced, with_placed, placed_at, with_bound, with_staging}
 use Rattle.core_model.specs.Adding.{gives_block, with_page, staged_range, staged_command, length_of, retired_by}
 use Rattle.core_model.specs.Playing.{HasBlock, Own, Of_class, Plays}
@@ -64,31 +64,37 @@ has_once script buffer b c old m n (Of_class _ _ _ class _ _ board e t) (Of_clas
     (r.0, ap (λ x. record old { board = x }) r.1)
 
 stages_once : (x y : PageChoice) (len : ℕ) (s t : Staged) (old m n : Pool) → x ≡ y → Stages x len s old m
-    → Stages y len t old n → (s ≡ t) × (m ≡ n)
-stages_once x y len s t old m n e (On_newest _ _ a h j) (On_newest _ _ b g k) =
+    → Stages y len t old n → KeepsLength x s old → KeepsLength y t old → (s ≡ t) × (m ≡ n)
+stages_once x y len s t old m n e (On_newest _ _ a h j) (On_newest _ _ b g k) u v =
     let z : Some a ≡ Some b = sym h ∙ g in
     let same : a ≡ b = cc z in (
       ap (λ a. record { block = a.page.block; at = a.used; added = [] }) same,
       ap (λ a. record old { newest = Some (record a { used = a.used + len }) }) same,
     )
-stages_once x y len s t old m n e (On_newest _ _ a h j) (On_spare _ _ front p back g k l) = absurd (cc e)
-stages_once x y len s t old m n e (On_newest _ _ a h j) (On_new _ _ k) = absurd (cc e)
-stages_once x y len s t old m n e (On_spare _ _ front p back g k l) (On_newest _ _ a h j) = absurd (cc e)
-stages_once x y len s t old m n e (On_spare _ _ front p back g k l) (On_spare _ _ front2 p2 back2 g2 k2 l2) =
+stages_once x y len s t old m n e (On_newest _ _ a h j) (On_spare _ _ front p back size g k l) u v = absurd (cc e)
+stages_once x y len s t old m n e (On_newest _ _ a h j) (On_new _ _ k) u v = absurd (cc e)
+stages_once x y len s t old m n e (On_spare _ _ front p back size g k l) (On_newest _ _ a h j) u v = absurd (cc e)
+stages_once x y len s t old m n e (On_spare _ _ front p back size g k l) (On_spare _ _ front2 p2 back2 size2 g2 k2 l2)
+    u v =
     let long : length front ≡ length front2 = cc e in
-    let r = split_once front front2 p p2 back back2 long (sym g ∙ g2) in (
-      ap (λ p. record { block = p.block; at = 0; added = p ∷ [] }) r.1,
+    let r = split_once front front2 p p2 back back2 long (sym g ∙ g2) in
+    let both : Some (with_length p size) ≡ Some (with_length p2 size2) =
+    sym u.0 ∙ ap (λ i. slice_get old.spare i) long ∙ v.0 in
+    let page : with_length p size ≡ with_length p2 size2 = cc both in (
+      ap (λ p. record { block = p.block; at = 0; added = p ∷ [] }) page,
       two (λ spare p. record old { spare = spare; newest = Some (record { page = p; used = len }) }) (front ++ back)
-          (front2 ++ back2) p p2 (two (λ a b. a ++ b) front front2 back back2 r.0 r.2) r.1,
+          (front2 ++ back2) (with_length p size) (with_length p2 size2)
+          (two (λ a b. a ++ b) front front2 back back2 r.0 r.2) page,
     )
-stages_once x y len s t old m n e (On_spare _ _ front p back g k l) (On_new _ _ h) = absurd (cc e)
-stages_once x y len s t old m n e (On_new _ _ h) (On_newest _ _ a g j) = absurd (cc e)
-stages_once x y len s t old m n e (On_new _ _ h) (On_spare _ _ front p back g k l) = absurd (cc e)
-stages_once x y len s t old m n e (On_new _ _ h) (On_new _ _ g) = (refl, refl)
+stages_once x y len s t old m n e (On_spare _ _ front p back size g k l) (On_new _ _ h) u v = absurd (cc e)
+stages_once x y len s t old m n e (On_new _ _ h) (On_newest _ _ a g j) u v = absurd (cc e)
+stages_once x y len s t old m n e (On_new _ _ h) (On_spare _ _ front p back size g k l) u v = absurd (cc e)
+stages_once x y len s t old m n e (On_new _ _ h) (On_new _ _ g) u v = (refl, refl)
 
 bytes_once : (len : ℕ) (s t : Staged) (old m n : Pool) → StagesBytes First_choices len s old m
     → StagesBytes First_choices len t old n → (s ≡ t) × (m ≡ n)
-bytes_once len s t old m n p q = stages_once p.0 q.0 len s t old m n (p.2 refl ∙ sym (q.2 refl)) p.1 q.1
+bytes_once len s t old m n p q = stages_once p.0 q.0 len s t old m n (p.2 refl ∙ sym (q.2 refl)) p.1 q.1 (p.3 refl)
+    (q.3 refl)
 
 -- Items -------------------------------------------------------------------------------------------------------------
 

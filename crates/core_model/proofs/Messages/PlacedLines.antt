@@ -16,6 +16,7 @@ use Rattle.core_model.specs.CoreState.{Page, Segment, Owner, Unmade, Home, Retur
 use Rattle.core_model.specs.CoreState.{Dropped, Newest, Pool, Core, open_number, finished_count}
 use Rattle.core_model.specs.Readings.{Reading}
 use Rattle.core_model.specs.Placing.{PageChoice, Staged, Stages, On_newest, On_spare, On_new, fresh_page}
+use Rattle.core_model.specs.Placing.{with_length}
 use Rattle.core_model.specs.Adding.{with_turn, placed_at, staged_range}
 use Rattle.core_model.specs.TakingPosts.{TakesPosts, with_post, with_fence}
 use Rattle.core_model.specs.AppActs.{handed_over}
@@ -274,14 +275,14 @@ module _ (meaning : Meaning) (reading : Reading) (script : Script) (lawful : IsL
         subst (λ l. TopRight (Some (record n { used = n.used + len })) l (old.open_chunk.placed ++ p ∷ []))
             (sym (append-nil old.open_chunk.pages)) x.1,
       )
-  staged_item call item len g pool choice (On_spare _ _ front q back e long none) =
+  staged_item call item len g pool choice (On_spare _ _ front q back size e long none) =
       let is : AllByRecursion (λ p. old.owner p.block ≡ Spare) (q ∷ back) =
       all_back (λ p. old.owner p.block ≡ Spare) front (q ∷ back)
       (subst (AllByRecursion (λ p. old.owner p.block ≡ Spare)) e k.beside.places.spare) in
       let same : 0 + len ≡ len = omega arith in
       on_other_placed earlier_messages old.open_chunk.pages old.open_chunk.placed
-      (placed_at call item None None (Some (range q.block 0 (0 + len)))) (range q.block 0 (0 + len)) refl refl q
-      len (ap (range q.block 0) same) (leb-true len q.len long)
+      (placed_at call item None None (Some (range q.block 0 (0 + len)))) (range q.block 0 (0 + len)) refl refl
+      (with_length q size) len (ap (range q.block 0) same) (leb-true len size long)
       (others q.block (λ x. subst (IsPageOf (open_number old)) is.0 x)) h.opened
   staged_item call item len g pool choice (On_new _ _ none) =
       let q = fresh_page old.pool len in

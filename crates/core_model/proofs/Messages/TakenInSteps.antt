@@ -9,7 +9,7 @@ use Rattle.core_model.specs.CoreState.{Page, Owner, Unmade, Home, Returning, Spa
 use Rattle.core_model.specs.CoreState.{Pool, Core}
 use Rattle.core_model.specs.Renaming.{range_on}
 use Rattle.core_model.specs.Readings.{Reading}
-use Rattle.core_model.specs.Placing.{PageChoice, Staged, Stages, On_newest, On_spare, On_new}
+use Rattle.core_model.specs.Placing.{PageChoice, Staged, Stages, On_newest, On_spare, On_new, with_length}
 use Rattle.core_model.specs.Adding.{with_turn}
 use Rattle.core_model.specs.TakingPosts.{TakesPosts, with_post, with_fence}
 use Rattle.core_model.specs.AppActs.{TakesTurn, Acts, with_read}
@@ -108,8 +108,8 @@ module _ (meaning : Meaning) (reading : Reading) (script : Script) (lawful : IsL
           at : (choice : PageChoice) (len : ℕ) (s : Staged) (pool : Pool) → Stages choice len s old.pool pool
               → (q : Page) → s.added ≡ q ∷ [] → s.block ≡ q.block
           at choice len s pool (On_newest _ _ n is fits) q e = absurd (cc e)
-          at choice len s pool (On_spare _ _ front x back is long none) q e =
-              let same : x ≡ q = cc e in ap (λ x. x.block) same
+          at choice len s pool (On_spare _ _ front x back size is long none) q e =
+              let same : with_length x size ≡ q = cc e in ap (λ x. x.block) same
           at choice len s pool (On_new _ _ none) q e = let same = last_alike [] _ q e in ap (λ x. x.block) same
 
       -- a turn takes nothing, or what its item takes

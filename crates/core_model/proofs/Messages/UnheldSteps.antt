@@ -180,7 +180,7 @@ module _ (meaning : Meaning) (reading : Reading) (script : Script) (lawful : IsL
       inl (or_right (takes b old.open_chunk.placed) (stages_in b old.open_chunk.placed)
       (subst (λ b. stages_in b old.open_chunk.placed ≡ true) (eqb-true n.page.block b x)
       (among_staged n.page.block old.open_chunk.placed top.0)))
-  staged call item len g pool choice (On_spare _ _ front q back e long none) b x =
+  staged call item len g pool choice (On_spare _ _ front q back size e long none) b x =
       let is : AllByRecursion (λ p. old.owner p.block ≡ Spare) (q ∷ back) =
       all_back (λ p. old.owner p.block ≡ Spare) front (q ∷ back)
       (subst (AllByRecursion (λ p. old.owner p.block ≡ Spare)) e k.beside.places.spare) in

@@ -9,20 +9,23 @@ use Rattle.vk_types.specs.Effects.{Meaning}
 use Rattle.core_model.specs.Script.{Play, Create, Discard, No_overwrite, Stage, Command, Destroy, Create_shader}
 use Rattle.core_model.specs.Script.{Mark_query, Set_state, Turn, Refused, Passed, Flushed, Asked, Item, Script}
 use Rattle.core_model.specs.CoreState.{Page, Pool, Board, Core, start}
-use Rattle.core_model.specs.Readings.{Reading, Any_choices, First_choices, chooses_first}
+use Rattle.core_model.specs.Readings.{Reading, Any_choices, First_choices, In_threads, chooses_first}
+use Rattle.core_model.specs.Readings.{keeps_pages}
 use Rattle.core_model.specs.Placing.{BlockChoice, At_home, New_block, Takes, From_home, New_made, first_home, Staged}
 use Rattle.core_model.specs.Placing.{PageChoice, Newest_page, Spare_page, newest_fits, Stages, On_newest, On_spare}
-use Rattle.core_model.specs.Placing.{On_new, first_long, first_page}
+use Rattle.core_model.specs.Placing.{On_new, first_long, first_page, with_length, KeepsLength, StagesBytes}
 use Rattle.core_model.specs.Playing.{HasBlock, Own, Of_class, Plays}
 use Rattle.core_model.specs.AppActs.{TakesTurn, Acts}
 use Rattle.core_model.specs.CoreStep.{Event, App, Cs, Pipe, Submit, Accept, Run, Complete, Finish, Come_home}
 use Rattle.core_model.specs.CoreStep.{AppSteps, Step, Chain, AllComeHome, FirstStep, CoreStep}
 use Rattle.core_model.specs.Runs.{Actor, Follows, FirstEnabled, settling, Settles, At_end, Settling, IsRun}
 use Rattle.core_model.specs.Free.{is_home, FreeSteps, FreeRun}
+use Rattle.core_model.proofs.Steps.Segments.{get_middle}
 
 -- From any choices to free ones -------------------------------------------------------------------------------------
 
-module _ (reading free : Reading) (f : chooses_first free ≡ false) where
+module _ (reading free : Reading) (f : chooses_first free ≡ false)
+    (g : keeps_pages free ≡ true → keeps_pages reading ≡ true) where
   never : {A : Type 0} → chooses_first free ≡ true → A
   never h = absurd (both_ways (chooses_first free) f h)
 
@@ -41,7 +44,7 @@ module _ (reading free : Reading) (f : chooses_first free ≡ false) where
   play_free script call item (No_overwrite buffer from bytes) bound old new p = p
   play_free script call item (Stage [] target skip) bound old new p = p
   play_free script call item (Stage (b ∷ bs) target skip) bound old new p =
-      (p.0, p.1, (p.2.0, p.2.1, λ h. never h), p.3)
+      (p.0, p.1, (p.2.0, p.2.1, (λ h. never h), λ h. p.2.3 (g h)), p.3)
   play_free script call item (Command w skip) bound old new p = p
   play_free script call item (Destroy buffer) bound old new p = p
   play_free script call item Create_shader bound old new p = p
@@ -98,16 +101,23 @@ takes_first choice class block old new t =
 
 -- bytes staged by this choice
 abbrev StagesBy : PageChoice → ℕ → Pool → Type 0
-StagesBy choice len old = (s : Staged) × (new : Pool) × Stages choice len s old new
+StagesBy choice len old = (s : Staged) × (new : Pool) × Stages choice len s old new × KeepsLength choice s old
 
 finds_long : (len : ℕ) (old : Pool) → newest_fits len old.newest ≡ false → (front ps : List Page)
     → old.spare ≡ front ++ ps → StagesBy (first_long (length front) len ps) len old
-finds_long len old n front [] e = (_, _, On_new len old n)
+finds_long len old n front [] e = (_, _, On_new len old n, tt)
 finds_long len old n front (p ∷ ps) e =
     elim (cases_Bool (nat_le len p.len)) [
       | inl fits ↦ subst (λ c. StagesBy c len old)
-          (sym (ap (λ b. cond b (Spare_page (length front)) (first_long (suc (length front)) len ps)) fits))
-          (_, _, On_spare len old front p ps e fits n)
+          (sym (ap (λ b. cond b (Spare_page (length front)) (first_long (suc (length front)) len ps)) fits)) (
+            _,
+            _,
+            On_spare len old front p ps p.len e fits n,
+            (
+              ap (λ l. slice_get l (length front)) e ∙ get_middle front p ps,
+              tt,
+            ),
+          )
       | inr short ↦
           let more : length (front ++ p ∷ []) ≡ suc (length front) = omega (arith, length-append front (p ∷ [])) in
           subst (λ c. StagesBy c len old)
@@ -122,8 +132,8 @@ stages_first choice len s old new (On_newest _ _ n e fits) =
     subst (λ c. StagesBy c len old)
     (sym (ap (λ o. cond (newest_fits len o) Newest_page (first_long 0 len old.spare)) e
     ∙ ap (λ b. cond b Newest_page (first_long 0 len old.spare)) fits))
-    (_, _, On_newest len old n e fits)
-stages_first choice len s old new (On_spare _ _ front p back e l n) =
+    (_, _, On_newest len old n e fits, tt)
+stages_first choice len s old new (On_spare _ _ front p back size e l n) =
     subst (λ c. StagesBy c len old) (sym (ap (λ b. cond b Newest_page (first_long 0 len old.spare)) n))
     (finds_long len old n [] old.spare refl)
 stages_first choice len s old new (On_new _ _ n) =
@@ -149,7 +159,7 @@ module _ (reading : Reading) where
   play_first script call item (Stage [] target skip) bound old new p = (new, p)
   play_first script call item (Stage (b ∷ bs) target skip) bound old new p =
       let s = stages_first p.2.0 (length (b ∷ bs)) p.0 old.pool p.1 p.2.1 in
-      (_, (s.0, s.1, (_, s.2, λ h. refl), refl))
+      (_, (s.0, s.1, (_, s.2, (λ h. refl), λ h. s.3), refl))
   play_first script call item (Command w skip) bound old new p = (new, p)
   play_first script call item (Destroy buffer) bound old new p = (new, p)
   play_first script call item Create_shader bound old new p = (new, p)
@@ -170,7 +180,7 @@ module _ (reading : Reading) where
 acts_free : (script : Script) (old new : Core) → Acts First_choices script old new → Acts Any_choices script old new
 acts_free script old new (e, inl h) = (e, inl h)
 acts_free script old new (e, inr (inl t)) =
-    (e, inr (inl (t.0, t.1, t.2, t.3, turn_free First_choices Any_choices refl script t.1 t.2 old new t.4)))
+    (e, inr (inl (t.0, t.1, t.2, t.3, turn_free First_choices Any_choices refl (λ h. refl) script t.1 t.2 old new t.4)))
 acts_free script old new (e, inr (inr z)) = (e, inr (inr z))
 
 -- what can be done by some choice can be done by the first
@@ -295,3 +305,17 @@ pub run_free : (meaning : Meaning) (script : Script) (schedule : List ℕ) (new 
 run_free meaning script schedule new r =
     free_then meaning script (start script) r.0 new (follows_free meaning script schedule (start script) r.0 r.1)
     (settles_free meaning script r.0 new r.2)
+
+-- In threads --------------------------------------------------------------------------------------------------------
+
+-- a page that came back may be as long as suffices
+pub any_length : (len long : ℕ) (pool : Pool) (front : List Page) (p : Page) (back : List Page)
+    → pool.spare ≡ front ++ p ∷ back → nat_le len long ≡ true → newest_fits len pool.newest ≡ false
+    → StagesBytes In_threads len (record { block = p.block; at = 0; added = with_length p long ∷ [] }) pool
+    (record pool { spare = front ++ back; newest = Some (record { page = with_length p long; used = len }) })
+any_length len long pool front p back e l n = (
+  Spare_page (length front),
+  On_spare len pool front p back long e l n,
+  (λ h. absurd (cc h)),
+  λ h. absurd (cc h),
+)

@@ -164,7 +164,7 @@ taken_page : (meaning : Meaning) (reading : Reading) (script : Script) (old : Co
     → s.added ≡ p ∷ [] → may_touch old s.block ≡ false
 taken_page meaning reading script old k choice len s before after (On_newest _ _ n is fits) spare fresh p e =
     absurd (cc e)
-taken_page meaning reading script old k choice len s before after (On_spare _ _ front q back is long none) spare
+taken_page meaning reading script old k choice len s before after (On_spare _ _ front q back size is long none) spare
     fresh p e =
     let was : AllByRecursion (λ q. old.owner q.block ≡ Spare) (q ∷ back) =
     all_back (λ q. old.owner q.block ≡ Spare) front (q ∷ back)

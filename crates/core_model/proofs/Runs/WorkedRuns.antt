@@ -35,7 +35,7 @@ abbrev u3 : Next update_copy_map u2.0 (App 0)
 u3 = (
   _,
   app_takes no_shaders update_copy_map u2.0 _ _ _ refl refl refl refl
-      (_, _, (New_page, On_new 16 _ refl, (λ h. refl)), refl),
+      (_, _, (New_page, On_new 16 _ refl, (λ h. refl), λ h. tt), refl),
 )
 
 abbrev u4 : Next update_copy_map u3.0 (App 0)

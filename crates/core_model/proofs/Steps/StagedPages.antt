@@ -66,8 +66,8 @@ page_ready choice len s before after (On_newest _ _ n e fits) t f number fence o
     taken =
     let x : IsNewest number owner (Some n) = subst (IsNewest number owner) e newest in
     newest_ready t f number fence n.used (owner n.page.block) since x.0 taken x.1
-page_ready choice len s before after (On_spare _ _ front p back e long none) t f number fence owner l m newest spare
-    fresh since taken =
+page_ready choice len s before after (On_spare _ _ front p back size e long none) t f number fence owner l m newest
+    spare fresh since taken =
     let is : owner p.block ≡ Spare =
     (let z : AllByRecursion (λ p. owner p.block ≡ Spare) (p ∷ back) =
     all_back (λ p. owner p.block ≡ Spare) front (p ∷ back)

@@ -1,6 +1,7 @@
 -- What a module in a shader's place leaves is what the log's meaning leaves.
 use Rattle.std.proofs.Common.{◌≡◌, ℕ, zero, suc, ◌+◌, ◌*◌, ◌<◌, true, false, cond, List, map, sym, ap, ◌∙◌, Some, arith}
 use Rattle.std.specs.Prelude.{if◌then◌else◌}
+use mathlib.Core.Path.{fun_ext}
 use Rattle.base_lemmas.specs.Lists.{numbers_from}
 use Rattle.call_log.specs.Call.{Issued}
 use Rattle.d3d_model.specs.InOrder.{call_at}
@@ -10,9 +11,15 @@ use Rattle.shader_model.specs.Invocation.{Slots, words_in}
 use Rattle.shader_model.specs.Dispatch.{is_allowed, volume, dispatched, run_all, invocations}
 use Rattle.spirv_model.specs.Meaning.Bindings.{SlotsFit}
 use Rattle.spirv_model.specs.Meaning.ModuleDispatch.{group_of, module_dispatched}
-use Rattle.vk_types.specs.Effects.{SlotWords}
+use Rattle.vk_types.specs.declared.command.Groups.{Groups}
+use Rattle.vk_types.specs.declared.command.SlotRange.{SlotRange}
+use Rattle.vk_types.specs.declared.command.Work.TheVariants as work
+use Rattle.vk_types.specs.Memory.{Memory}
+use Rattle.vk_types.specs.Effects.{SlotWords, slots_words, group_counts, put_slots, work_effect}
+use Rattle.core_model.specs.Formed.{DispatchIsFormed}
 use Rattle.log_script.specs.LogScript.{words_by, all_slots, no_slots, meaning_of}
-use Rattle.log_script.specs.Modules.{IsModuleOf}
+use Rattle.log_script.specs.Modules.{IsModuleOf, IsOfBytes}
+use Rattle.log_script.proofs.Meant.SlotsOfBytes.{slots_fit}
 
 -- the words of a slot that there is
 listed : (f : ℕ → List ℕ) (n from k : ℕ) → k < n → words_in (map f (numbers_from from n)) k ≡ f (from + k)
@@ -45,6 +52,21 @@ module _ (log : List Issued) (shader : ℕ) (program : Program) (words : List �
     is.dispatches counts (all_slots slots) (ap (is_allowed counts) (sym is.group) ∙ allowed) fit,
     λ view. sym (left_by counts slots view),
   )
+
+  -- a formed dispatch of the module does to memory what the log's shader does
+  pub does_as : (memory : Memory) → IsOfBytes memory → (counts : Groups) (slots : List SlotRange)
+      → DispatchIsFormed counts slots → is_allowed (group_counts memory counts) (group_of words) ≡ true
+      → (left : Slots)
+      × (module_dispatched words (group_counts memory counts) (all_slots (slots_words memory slots)) ≡ Some left)
+      × (work_effect (meaning_of log) (work.Dispatch shader counts slots) memory
+      ≡ put_slots (λ view. words_in left.writes view) slots memory)
+  does_as memory bytes counts slots formed allowed =
+      let o = has_outcome (group_counts memory counts) (slots_words memory slots) allowed
+      (slots_fit memory bytes slots formed.each) in (
+        o.0,
+        o.1,
+        ap (λ f. put_slots f slots memory) (fun_ext (λ view. sym (o.2 view))),
+      )
 
   pub too_large : (counts : List ℕ) (slots : SlotWords) → is_allowed counts (group_of words) ≡ false
       → (view : ℕ) → view < 8 → (meaning_of log).words shader counts slots view ≡ slots.uav view

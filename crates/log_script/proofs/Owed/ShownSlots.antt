@@ -1,41 +1,26 @@
 -- What slots show, in rising order, and the sizes of views.
-use Rattle.std.proofs.Common.{◌≡◌, ℕ, suc, ◌+◌, ◌-◌, ◌*◌, ◌<◌, ◌≤◌, true, false, ◌||◌, List, [], ◌∷◌, ◌++◌, length}
-use Rattle.std.proofs.Common.{Option, Some, None, refl, sym, ap, ◌∙◌, subst, inl, inr, arith, append-nil}
-use Rattle.std.specs.Prelude.{◌%◌, ⊤, is_some, min, if◌then◌else◌}
+use Rattle.std.proofs.Common.{◌≡◌, ℕ, suc, ◌+◌, ◌-◌, ◌*◌, ◌<◌, ◌≤◌, List, [], ◌∷◌, ◌++◌, length}
+use Rattle.std.proofs.Common.{Option, Some, None, refl, sym, ap, ◌∙◌, inl, inr, arith}
+use Rattle.std.specs.Prelude.{◌%◌, min}
 use Rattle.std.specs.List.{find, AllByRecursion}
-use Rattle.std.proofs.Math.Nat.{min-eq_left, min-eq_right, min-le_right, add-mul, mul-zero, zero-mod}
+use Rattle.std.proofs.Math.Nat.{min-eq_left, min-eq_right, add-mul, mul-zero, zero-mod}
 use Rattle.std.proofs.lemmas.Nat.{mul-mod_second}
 use Rattle.std.proofs.lemmas.Bool.{cases_lt}
 use Rattle.dx_types.specs.declared.range.ResRange.{ResRange}
-use Rattle.dx_types.specs.declared.shape.Shape.{Shape}
 use Rattle.dx_types.specs.declared.shape.ViewShape.{ViewShape}
 use Rattle.dx_types.specs.declared.shape.Form.{Form}
 use Rattle.dx_types.specs.declared.shape.Form.TheVariants.{Raw, Structured, Typed}
 use Rattle.shader_model.specs.declared.tree.Declared.{Declared}
 use Rattle.vk_types.specs.declared.command.SlotName.{SlotName}
-use Rattle.vk_types.specs.declared.command.SlotName.TheVariants as slot
 use Rattle.vk_types.specs.declared.command.SlotRange.{SlotRange}
-use Rattle.vk_types.specs.declared.command.Groups.{Groups}
 use Rattle.base_lemmas.specs.Lists.{Pairwise}
-use Rattle.base_lemmas.specs.IdMap.{get}
-use Rattle.d3d_model.specs.Check.{has}
-use Rattle.d3d_model.specs.Resource.{size_of}
-use Rattle.d3d_model.specs.View.{view_range}
-use Rattle.d3d_model.specs.Binding.{Bindings, BoundView}
-use Rattle.d3d_model.specs.Shader.{declared_by, fits_slot}
-use Rattle.d3d_model.specs.D3dState.{Objects, buffer_of, words_set}
-use Rattle.d3d_model.specs.Memory.{is_declared, constant_shown, view_shown, shown_from, constants_shown, srvs_shown}
-use Rattle.d3d_model.specs.Memory.{uavs_shown}
+use Rattle.d3d_model.specs.Memory.{is_declared, shown_from}
 use Rattle.d3d_model.specs.Past.{Past}
-use Rattle.core_model.specs.Formed.{range_size, is_written_slot, IsSlot, slot_rank, SlotsRise, SlotIsFormed}
-use Rattle.core_model.specs.Formed.{SlotsApart, GroupsAreFormed, DispatchIsFormed}
-use Rattle.log_script.specs.Makers.{maker, of_maker}
-use Rattle.log_script.specs.Plays.{slots_from, slots_listed}
-use Rattle.log_script.specs.Standing.{WholeUnit, ViewWhole}
-use Rattle.log_script.specs.Fitting.{ConstantFits, ViewFits, SetFits, Distinct, ViewsApart}
-use Rattle.log_script.proofs.Owed.StayingFit.{all_by, all_both, all_append}
-use Rattle.log_script.proofs.Owed.FittingCalls.{BuffersFit, ViewsFit}
-use Rattle.log_script.proofs.Meant.AgreeingDispatch.{AllSlots}
+use Rattle.core_model.specs.Formed.{IsSlot, slot_rank, SlotsRise}
+use Rattle.log_script.specs.Makers.{of_maker}
+use Rattle.log_script.specs.Plays.{slots_from}
+use Rattle.log_script.specs.Standing.{WholeUnit}
+use Rattle.log_script.proofs.Owed.StayingFit.{all_both, all_append}
 
 -- ---- what slots show
 
