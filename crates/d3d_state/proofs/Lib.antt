@@ -1,4 +1,4 @@
 pub mod Found
 pub mod Counts
 pub mod Spelled
-pub mod Unused
+pub mod Contexts

@@ -1,36 +1,43 @@
-ghost use Rattle.d3d_model.specs.declared.codes.TheConstants.{BUFFER_CLASS, VIEW_CLASS, SHADER_CLASS, QUERY_CLASS};
-ghost use Rattle.dx_types.specs.declared.limits.TheConstants.{CONSTANT_SLOTS, SRV_SLOTS, UAV_SLOTS};
+ghost use Rattle.d3d_model.specs.declared.codes.TheConstants.{BUFFER_CLASS, VIEW_CLASS, SHADER_CLASS, QUERY_CLASS, LIST_CLASS};
+ghost use Rattle.d3d_lists.specs.declared.recorder.TheConstants.{CONTEXTS};
 
-use crate::{LiveShader, Queries, Query, Shaders, Views};
+use crate::settings::Settings;
+use crate::{LiveShader, Queries, Query, Setting, Shaders, Views};
+use call_log::Call;
+use d3d_lists::{CONTEXTS, Name, Numbered, Recorder};
 use d3d_resources::{Table, TableEnd};
-use d3d_views::{Bindings, BoundView, Predicate};
+use d3d_views::{Bindings, BoundView};
 use dx_types::{CallNo, Refusal, Shape, ViewShape};
 use shader_model::Shader;
 use std::alloc::{AllocError, Global};
 
-/// What is live, and what is set on the immediate context. No command list is live yet, and the deferred contexts are in the
-/// default state.
+/// What is live, what is set on each context, and what the deferred contexts record.
 #[derive(Drop)]
-pub struct Objects {
+pub struct Objects<'a> {
+    alloc: Global,
     buffers: Table,
     views: Views,
     shaders: Shaders,
     queries: Queries,
-    bindings: Bindings,
+    settings: Settings,
+    recorder: Recorder<'a>,
 }
 
 // What the checks ask.
-impl Objects {
-    ghost use Rattle.std.specs.Prelude.{◌≡◌, ◌<◌, ◌^◌, ◌||◌, IfSome};
+impl<'a> Objects<'a> {
+    ghost use Rattle.std.specs.Prelude.{◌≡◌, ◌<◌, ◌^◌, ◌||◌, List, length, false, IfOk, IfSome};
     ghost use Rattle.std.specs.Borrow.{Bor};
     ghost use Rattle.std.specs.Option.{option_copied, option_map};
     ghost use Rattle.shader_model.specs.Shader.{Tree, program_of};
     ghost use Rattle.d3d_model.specs.Binding.{holds_buffer, holds_query, holds_shader, holds_view};
     ghost use Rattle.d3d_model.specs.Check.{first_failed};
-    ghost use Rattle.d3d_model.specs.D3dState as model;
-    ghost use Rattle.d3d_model.specs.D3dState.{bindings_of, bound_view, buffer_of, no_objects, words_set};
+    ghost use Rattle.d3d_model.specs.D3dState.{bindings_of, bound_view, buffer_of, context_of, no_objects, words_set};
     ghost use Rattle.base_lemmas.specs.IdMap as ids;
-    ghost use Rattle.d3d_model.specs.Stream.{is_listed};
+    ghost use Rattle.std.specs.List.{list_any};
+    ghost use Rattle.d3d_lists.specs.declared.numbered.Numbered.{Numbered as RecordedCall};
+    ghost use Rattle.d3d_lists.specs.Calls.{calls_in};
+    ghost use Rattle.d3d_lists.specs.Names.{name_view};
+    ghost use Rattle.d3d_model.specs.Stream.{begun_after, begun_in_list, is_listed};
     ghost use Rattle.d3d_model.specs.Verdict.{has_view, is_set, query_is};
     ghost use Rattle.d3d_model.specs.View.{view_end};
     ghost use Rattle.d3d_resources.specs.Creation.{table_checks};
@@ -38,17 +45,20 @@ impl Objects {
     ghost use Rattle.d3d_state.specs.Shaders.{program_by};
     ghost use Rattle.d3d_views.specs.Limits.{EndFits};
 
-    /// Nothing is live, and nothing is set.
-    pub fn new(alloc: Global) -> Objects
-        ensures { objects_of result ≡ no_objects }
+    /// Nothing is live, nothing is set, and nothing is recorded.
+    pub fn new(alloc: Global) -> Result<Objects<'a>, AllocError>
+        ensures { IfOk result (λ o. objects_of o ≡ no_objects) }
     {
-        Objects {
+        let recorder = Recorder::new(alloc)?;
+        Ok(Objects {
+            alloc,
             buffers: Table::new(alloc),
             views: Views::new(alloc),
             shaders: Shaders::new(alloc),
             queries: Queries::new(alloc),
-            bindings: Bindings::new(),
-        }
+            settings: Settings::new(),
+            recorder,
+        })
     }
 
     /// The shape of a live buffer.
@@ -92,12 +102,13 @@ impl Objects {
         self.shaders.get(id)
     }
 
-    /// The tree of the shader that is set on the immediate context; none where none is set.
-    pub fn shader_now(&self) -> Option<&Shader>
+    /// The tree of the shader that is set on a context; none where none is set.
+    pub fn shader_on(&self, context: u16) -> Option<&Shader>
+        requires { context < CONTEXTS }
         ensures { let o = objects_of self.now in
-            option_map (λ (s : Bor Tree). program_of s.now) result ≡ program_by (words_set o (bindings_of o 0)) }
+            option_map (λ (s : Bor Tree). program_of s.now) result ≡ program_by (words_set o (bindings_of o context)) }
     {
-        let shader = self.shaders.get(self.bindings.shader())?;
+        let shader = self.shaders.get(self.settings.on(context).shader())?;
         Some(shader.tree())
     }
 
@@ -108,19 +119,52 @@ impl Objects {
         self.queries.get(id)
     }
 
-    /// What is set on the immediate context.
-    pub fn bindings(&self) -> &Bindings
-        ensures { result.now ≡ bindings_of (objects_of self.now) 0 }
+    /// What is set on a context.
+    pub fn bindings(&self, context: u16) -> &Bindings
+        requires { context < CONTEXTS }
+        ensures { result.now ≡ bindings_of (objects_of self.now) context }
     {
-        &self.bindings
+        self.settings.on(context)
     }
 
-    /// Whether a buffer may not be destroyed: it is set, it has a live view, or a command list names it.
+    /// How many calls the open list of a context has.
+    pub fn recorded_count(&self, context: u16) -> usize
+        requires { context < CONTEXTS }
+        ensures { result ≡ length (context_of (objects_of self.now) context).recorded }
+    {
+        self.recorder.count(context)
+    }
+
+    /// Whether the open list of a context leaves a query begun.
+    pub fn is_begun_in_list(&self, context: u16, query: u32) -> bool
+        requires { context < CONTEXTS }
+        ensures { result ≡ begun_after query false (context_of (objects_of self.now) context).recorded }
+    {
+        self.recorder.is_begun(context, query)
+    }
+
+    /// Whether the open list of a context leaves a query begun that it begins. It goes over the list's calls.
+    pub fn leaves_begun(&self, context: u16) -> bool
+        requires { context < CONTEXTS }
+        ensures { let cs = (context_of (objects_of self.now) context).recorded in
+            result ≡ list_any (λ q. begun_after q false cs) (begun_in_list cs) }
+    {
+        self.recorder.leaves_begun(context)
+    }
+
+    /// The calls of a live list, in order.
+    pub fn list(&self, list: u32) -> Option<&[Numbered<'a>]>
+        ensures { option_map (λ (b : Bor (List RecordedCall)). calls_in b.now) result ≡ ids.get (objects_of self.now).lists list }
+    {
+        self.recorder.list(list)
+    }
+
+    /// Whether a buffer may not be destroyed: it is set, a command list names it, or it has a live view.
     pub fn uses_buffer(&self, id: u32) -> bool
         ensures { let o = objects_of self.now in
             result ≡ (is_set o (λ b. holds_buffer b id) || is_listed o BUFFER_CLASS id || has_view o id) }
     {
-        self.bindings.holds(id) || self.views.has_of(id)
+        self.is_held(self.settings.hold_buffer(id), Name::Buffer(id)) || self.views.has_of(id)
     }
 
     /// Whether a view may not be destroyed: it is set, or a command list names it.
@@ -128,24 +172,30 @@ impl Objects {
         ensures { let o = objects_of self.now in
             result ≡ (is_set o (λ b. holds_view b id) || is_listed o VIEW_CLASS id) }
     {
-        self.bindings.holds_view(id)
+        self.is_held(self.settings.hold_view(id), Name::View(id))
     }
 
-    /// Whether a shader may not be destroyed: it is set, or a command list names it. The deferred contexts have none set,
-    /// which is the id 0.
+    /// Whether a shader may not be destroyed: it is set, or a command list names it.
     pub fn uses_shader(&self, id: u32) -> bool
         ensures { let o = objects_of self.now in
             result ≡ (is_set o (λ b. holds_shader b id) || is_listed o SHADER_CLASS id) }
     {
-        id == 0 || self.bindings.holds_shader(id)
+        self.is_held(self.settings.hold_shader(id), Name::Shader(id))
     }
 
-    /// Whether a query may not be destroyed: it is the predicate's, it is begun, or a command list names it.
+    /// Whether a query may not be destroyed: it is the predicate's, a command list names it, or it is begun.
     pub fn uses_query(&self, id: u32) -> bool
         ensures { let o = objects_of self.now in
             result ≡ (is_set o (λ b. holds_query b id) || is_listed o QUERY_CLASS id || query_is o id (λ q. q.begun)) }
     {
-        self.bindings.holds_query(id) || self.is_begun(id)
+        self.is_held(self.settings.hold_query(id), Name::Query(id)) || self.is_begun(id)
+    }
+
+    // Whether an object is set, or a command list names it.
+    fn is_held(&self, is_set: bool, name: Name) -> bool
+        ensures { result ≡ (is_set || is_listed (objects_of self.now) (name_view name).class (name_view name).id) }
+    {
+        is_set || self.recorder.names(name)
     }
 
     /// Whether a live query is begun on the immediate context.
@@ -160,19 +210,17 @@ impl Objects {
 }
 
 // What accepted calls change.
-impl Objects {
-    ghost use Rattle.std.specs.Prelude.{◌≡◌, ℕ, ◌+◌, ◌<◌, ◌^◌, None, OnErr, OnOk};
-    ghost use Rattle.call_log.specs.Call as calls;
+impl<'a> Objects<'a> {
+    ghost use Rattle.std.specs.Prelude.{◌≡◌, ◌<◌, ◌^◌, None, OnErr, OnOk};
+    ghost use Rattle.call_log.specs.View.{call_view};
     ghost use Rattle.d3d_model.specs.Check.{first_failed};
     ghost use Rattle.d3d_model.specs.D3dState.{bindings_of, with_bindings};
-    ghost use Rattle.d3d_model.specs.Effect.{destroyed, objects_after};
-    ghost use Rattle.d3d_model.specs.Binding.{set_predicate};
+    ghost use Rattle.d3d_model.specs.Effect.{begun_query, destroyed, ended_query, finished};
     ghost use Rattle.base_lemmas.specs.IdMap as ids;
     ghost use Rattle.d3d_model.specs.View.{view_end};
     ghost use Rattle.d3d_resources.specs.Creation.{table_checks};
-    ghost use Rattle.d3d_state.specs.Meaning.{objects_of, with_buffer, with_query, with_shader, with_view};
-    ghost use Rattle.d3d_views.specs.Limits.{WordFits};
-    ghost use Rattle.d3d_views.specs.Meaning.{meaning};
+    ghost use Rattle.d3d_state.specs.Meaning.{objects_of, with_buffer, with_queries, with_query, with_recorded, with_shader, with_view};
+    ghost use Rattle.d3d_state.specs.Setting.{Fits, set_to};
 
     /// One more buffer is live. Want of memory changes nothing.
     pub fn create_buffer(&mut self, id: u32, shape: Shape) -> Result<(), AllocError>
@@ -241,65 +289,57 @@ impl Objects {
         self.queries.remove(id);
     }
 
-    /// Sets a shader by its id; 0 for none.
-    pub fn set_shader(&mut self, id: u32)
-        ensures { (n : ℕ) → objects_of self.new ≡ objects_after n (objects_of self.old) 0 (calls.SetShader id) }
+    /// A list is live no more.
+    pub fn destroy_list(&mut self, id: u32)
+        ensures { objects_of self.new ≡ destroyed (objects_of self.old) LIST_CLASS id }
     {
-        self.bindings.set_shader(id);
+        self.recorder.remove(id);
     }
 
-    /// Sets a buffer in a constant slot, from 0 to 13; id 0 empties it.
-    pub fn set_constant(&mut self, slot: u32, res: u32)
-        requires { slot < CONSTANT_SLOTS }
-        ensures { (n : ℕ) → objects_of self.new ≡ objects_after n (objects_of self.old) 0 (calls.SetConstant slot res) }
-    {
-        self.bindings.set_constant(slot as usize, res);
-    }
-
-    /// Sets a live view in a shader resource slot, from 0 to 15; id 0 empties it.
-    pub fn set_srv(&mut self, slot: u32, view: u32)
-        requires { slot < SRV_SLOTS }
-        ensures { (n : ℕ) → objects_of self.new ≡ objects_after n (objects_of self.old) 0 (calls.SetSrv slot view) }
-    {
-        let bound = self.bound_view(view);
-        self.bindings.set_srv(slot as usize, bound);
-    }
-
-    /// Sets a live view in an unordered access slot, from 0 to 7; id 0 empties it.
-    pub fn set_uav(&mut self, slot: u32, view: u32)
-        requires { slot < UAV_SLOTS }
-        ensures { (n : ℕ) → objects_of self.new ≡ objects_after n (objects_of self.old) 0 (calls.SetUav slot view) }
-    {
-        let bound = self.bound_view(view);
-        self.bindings.set_uav(slot as usize, bound);
-    }
-
-    /// Sets no shader, empties all slots, and sets no predication.
-    pub fn clear_state(&mut self)
-        ensures { (n : ℕ) → objects_of self.new ≡ objects_after n (objects_of self.old) 0 calls.ClearState }
-    {
-        self.bindings.clear();
-    }
-
-    /// Sets the predicate of the calls that are predicated.
-    pub fn set_predicate(&mut self, predicate: Predicate)
-        requires { WordFits (meaning predicate) }
+    /// Sets one thing on a context.
+    pub fn set(&mut self, context: u16, setting: Setting)
+        requires context { context < CONTEXTS }
+        requires fits { Fits setting }
         ensures { let o = objects_of self.old in
-            objects_of self.new ≡ with_bindings o 0 (set_predicate (bindings_of o 0) (meaning predicate)) }
+            objects_of self.new ≡ with_bindings o context (set_to (bindings_of o context) setting) }
     {
-        self.bindings.set_predicate(predicate);
+        self.settings.set(context, setting);
     }
 
-    /// A live query begins.
+    /// Call n is recorded in the open list of a context, and sets nothing. Want of memory changes nothing.
+    pub fn record(&mut self, context: u16, n: CallNo, call: Call<'a>) -> Result<(), AllocError>
+        requires { context < CONTEXTS }
+        ensures recorded { OnOk result (objects_of self.new ≡ with_recorded (objects_of self.old) context n (call_view call.entry)) }
+        ensures unchanged { OnErr result (objects_of self.new ≡ objects_of self.old) }
+    {
+        self.recorder.record(context, Numbered { number: n, call })
+    }
+
+    /// The open list of a context becomes a live one under a free id, and the context begins anew. Want of memory changes
+    /// nothing.
+    pub fn finish_list(&mut self, context: u16, list: u32) -> Result<(), AllocError>
+        requires context { context < CONTEXTS }
+        requires free { ids.get (objects_of self.old).lists list ≡ None }
+        ensures finished { OnOk result (objects_of self.new ≡ finished (objects_of self.old) context list) }
+        ensures unchanged { OnErr result (objects_of self.new ≡ objects_of self.old) }
+    {
+        self.recorder.finish(self.alloc, context, list)?;
+        self.settings.set(context, Setting::Default);
+        Ok(())
+    }
+
+    /// A live query begins on the immediate context.
     pub fn begin(&mut self, query: u32)
-        ensures { (n : ℕ) → objects_of self.new ≡ objects_after n (objects_of self.old) 0 (calls.Begin query) }
+        ensures { let o = objects_of self.old in
+            objects_of self.new ≡ with_queries o (begun_query (ids.get o.queries query) o.queries query) }
     {
         self.queries.begin(query);
     }
 
-    /// Call n ends a live query.
+    /// Call n ends a live query on the immediate context.
     pub fn end(&mut self, query: u32, n: CallNo)
-        ensures { objects_of self.new ≡ objects_after n (objects_of self.old) 0 (calls.EndQuery query) }
+        ensures { let o = objects_of self.old in
+            objects_of self.new ≡ with_queries o (ended_query n (ids.get o.queries query) o.queries query) }
     {
         self.queries.end(query, n);
     }

@@ -1,10 +1,23 @@
-use Rattle.std.proofs.Common.{refl, sym, ◌∙◌}
+use Rattle.std.proofs.Common.{◌∙◌}
+use Rattle.d3d_lists.specs.Recorded.{recorded_by}
 use Rattle.d3d_model.specs.Binding.{holds_buffer}
-use Rattle.d3d_state.proofs.Unused.{only_more, used_here}
+use Rattle.d3d_model.specs.Stream.{is_listed}
+use Rattle.d3d_state.specs.Meaning.{objects_of}
+use Rattle.d3d_state.proofs.Contexts.{held_by, one_way, other_way}
 use Rattle.d3d_state.proofs.objects.Objects.uses_buffer.Goals as goal
 
-pub returns-else-holds : goal.returns-else-holds
-returns-else-holds c =
+pub returns-then-is_held : goal.returns-then-is_held
+returns-then-is_held c =
+    let o = c.args.self.now in
+    c.if-is_held.true
+    ∙ one_way c.is_held.result _ _
+    (held_by (λ b. holds_buffer b c.args.id) o.settings.bindings (recorded_by o.recorder) c.is_held.result c.hold_buffer.result (is_listed (objects_of o) 1 c.args.id) c.is_held.ensures c.hold_buffer.ensures)
+    c.if-is_held.true
+
+pub returns-else-is_held : goal.returns-else-is_held
+returns-else-is_held c =
     let o = c.args.self.now in
     c.has_of.ensures
-    ∙ only_more _ _ _ (used_here o.buffers o.views o.shaders o.queries o.bindings (λ b. holds_buffer b c.args.id) 1 c.args.id refl) (sym c.holds.ensures ∙ c.if-holds.false)
+    ∙ other_way c.is_held.result _ _
+    (held_by (λ b. holds_buffer b c.args.id) o.settings.bindings (recorded_by o.recorder) c.is_held.result c.hold_buffer.result (is_listed (objects_of o) 1 c.args.id) c.is_held.ensures c.hold_buffer.ensures)
+    c.if-is_held.false

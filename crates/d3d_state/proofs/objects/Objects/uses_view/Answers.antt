@@ -1,9 +1,11 @@
-use Rattle.std.proofs.Common.{refl, sym, ◌∙◌}
+use Rattle.d3d_lists.specs.Recorded.{recorded_by}
 use Rattle.d3d_model.specs.Binding.{holds_view}
-use Rattle.d3d_state.proofs.Unused.{used_here}
+use Rattle.d3d_model.specs.Stream.{is_listed}
+use Rattle.d3d_state.specs.Meaning.{objects_of}
+use Rattle.d3d_state.proofs.Contexts.{held_by}
 use Rattle.d3d_state.proofs.objects.Objects.uses_view.Goals as goal
 
 pub returns : goal.returns
 returns c =
     let o = c.args.self.now in
-    c.holds_view.ensures ∙ sym (used_here o.buffers o.views o.shaders o.queries o.bindings (λ b. holds_view b c.args.id) 2 c.args.id refl)
+    held_by (λ b. holds_view b c.args.id) o.settings.bindings (recorded_by o.recorder) c.is_held.result c.hold_view.result (is_listed (objects_of o) 2 c.args.id) c.is_held.ensures c.hold_view.ensures
