@@ -1,3 +1,5 @@
 pub mod Passes
 mod Classes
 mod Unasked
+mod Listed
+mod Overwrites

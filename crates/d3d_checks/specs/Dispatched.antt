@@ -11,6 +11,6 @@ allows groups threads =
     nat_le (slice_index groups 0) MAX_GROUPS && nat_le (slice_index groups 1) MAX_GROUPS && nat_le (slice_index groups 2) MAX_GROUPS
     && nat_le (volume groups * threads) MAX_INVOCATIONS
 
--- the threads of a group of the shader that is set on the immediate context
-abbrev pub threads_of : Objects → ℕ
-threads_of o = volume (group_of (words_set o (bindings_of o 0)))
+-- the threads of a group of the shader that is set on a context
+abbrev pub threads_of : Objects → ℕ → ℕ
+threads_of o x = volume (group_of (words_set o (bindings_of o x)))

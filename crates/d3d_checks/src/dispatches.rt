@@ -1,6 +1,7 @@
 ghost use Rattle.std.specs.Prelude.{◌≡◌, ◌≤◌, ◌<◌, ◌^◌};
 ghost use Rattle.call_log.specs.Call as calls;
-ghost use Rattle.d3d_checks.specs.Asked.{refusal_of};
+ghost use Rattle.d3d_checks.specs.Asked.{refusal_on};
+ghost use Rattle.d3d_lists.specs.declared.recorder.TheConstants.{CONTEXTS};
 ghost use Rattle.d3d_checks.specs.Dispatched.{allows, threads_of};
 ghost use Rattle.d3d_model.specs.Past.{Past};
 ghost use Rattle.d3d_model.specs.Verdict.{has_shader};
@@ -15,11 +16,12 @@ use d3d_state::Objects;
 use dx_types::Refusal;
 use dx_types::limits::{INDIRECT_ARGUMENTS, MAX_GROUPS, MAX_INVOCATIONS};
 
-/// Whether a shader is set on the immediate context.
-fn has_shader(objects: &Objects) -> bool
-    ensures { result ≡ has_shader (objects_of objects.now) 0 }
+/// Whether a shader is set on a context.
+fn has_shader(objects: &Objects<'_>, context: u16) -> bool
+    requires { context < CONTEXTS }
+    ensures { result ≡ has_shader (objects_of objects.now) context }
 {
-    objects.bindings().shader() > 0
+    objects.bindings(context).shader() > 0
 }
 
 /// How many places there are below sizes.
@@ -31,11 +33,12 @@ fn volume(sizes: [u32; 3]) -> u64
 }
 
 /// The threads of a group of the shader that is set, 0 where none is.
-fn threads_now(objects: &Objects) -> u64
-    ensures value { result ≡ threads_of (objects_of objects.now) }
+fn threads_on(objects: &Objects<'_>, context: u16) -> u64
+    requires { context < CONTEXTS }
+    ensures value { result ≡ threads_of (objects_of objects.now) context }
     ensures small { result ≤ MAX_THREADS }
 {
-    match objects.shader_now() {
+    match objects.shader_on(context) {
         Some(shader) => {
             // What a shader keeps of the size of its group is learnt with its nodes.
             let _nodes = shader.body();
@@ -57,12 +60,19 @@ fn is_allowed(groups: [u32; 3], threads: u64) -> bool
 }
 
 /// Why a dispatch is refused.
-pub(crate) fn dispatch_refusal(objects: &Objects, x: u32, y: u32, z: u32) -> Option<Refusal>
-    ensures { (past : Past) → result ≡ refusal_of (objects_of objects.now) past (calls.Dispatch x y z) }
+pub(crate) fn dispatch_refusal(
+    objects: &Objects<'_>,
+    context: u16,
+    x: u32,
+    y: u32,
+    z: u32,
+) -> Option<Refusal>
+    requires { context < CONTEXTS }
+    ensures { (past : Past) → result ≡ refusal_on (objects_of objects.now) past context (calls.Dispatch x y z) }
 {
-    if !has_shader(objects) {
+    if !has_shader(objects, context) {
         Some(Refusal::BadShader)
-    } else if !is_allowed([x, y, z], threads_now(objects)) {
+    } else if !is_allowed([x, y, z], threads_on(objects, context)) {
         Some(Refusal::TooManyGroups)
     } else {
         None
@@ -70,8 +80,14 @@ pub(crate) fn dispatch_refusal(objects: &Objects, x: u32, y: u32, z: u32) -> Opt
 }
 
 /// Why a dispatch is refused whose counts stand in a buffer. The counts are not asked: they are read as it runs.
-pub(crate) fn indirect_refusal(objects: &Objects, res: u32, offset: u32) -> Option<Refusal>
-    ensures { (past : Past) → result ≡ refusal_of (objects_of objects.now) past (calls.DispatchIndirect res offset) }
+pub(crate) fn indirect_refusal(
+    objects: &Objects<'_>,
+    context: u16,
+    res: u32,
+    offset: u32,
+) -> Option<Refusal>
+    requires { context < CONTEXTS }
+    ensures { (past : Past) → result ≡ refusal_on (objects_of objects.now) past context (calls.DispatchIndirect res offset) }
 {
     let Some(shape) = objects.buffer(res) else {
         return Some(Refusal::UnknownId);
@@ -80,7 +96,7 @@ pub(crate) fn indirect_refusal(objects: &Objects, res: u32, offset: u32) -> Opti
         Some(Refusal::BadBind)
     } else if offset % 4 != 0 || passes_end(&shape, offset, COUNT_BYTES) {
         Some(Refusal::OutOfRange)
-    } else if !has_shader(objects) {
+    } else if !has_shader(objects, context) {
         Some(Refusal::BadShader)
     } else {
         None

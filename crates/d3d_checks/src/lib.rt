@@ -2,9 +2,11 @@
 #![tactic(auto)]
 
 mod dispatches;
+mod lists;
 mod maps;
 mod new_view;
 mod numbers;
+mod places;
 mod queries;
 mod refusals;
 mod resources;

@@ -10,6 +10,7 @@ ghost use Rattle.d3d_resources.specs.Creation.{creation_checks};
 ghost use Rattle.d3d_views.specs.Creation.{is_wrong_form};
 ghost use Rattle.d3d_state.specs.Meaning.{objects_of};
 
+use crate::lists::known_refusal;
 use crate::new_view::{NewView, described};
 use d3d_model::ObjectClass;
 use d3d_model::codes::{
@@ -36,7 +37,7 @@ fn is_wrong_data(size: u64, bytes: &[u8]) -> bool
 
 /// Why a buffer is not created. `usage` is its usage's number, and `bytes` the data that it begins with, if it has some.
 pub(crate) fn buffer_refusal(
-    objects: &Objects,
+    objects: &Objects<'_>,
     id: u32,
     usage: u32,
     shape: &Shape,
@@ -60,7 +61,7 @@ pub(crate) fn buffer_refusal(
 }
 
 /// Why a view is not created.
-pub(crate) fn view_refusal(objects: &Objects, ask: &NewView) -> Option<Refusal>
+pub(crate) fn view_refusal(objects: &Objects<'_>, ask: &NewView) -> Option<Refusal>
     ensures { (past : Past) → result ≡ refusal_of (objects_of objects.now) past (view_call ask.now) }
 {
     if !is_id(ask.view) {
@@ -106,8 +107,8 @@ fn is_wrong_form(form: u32, components: u32) -> bool
     }
 }
 
-/// Why an object is not destroyed. No command list is live.
-pub(crate) fn destroy_refusal(objects: &Objects, class: u32, id: u32) -> Option<Refusal>
+/// Why an object is not destroyed.
+pub(crate) fn destroy_refusal(objects: &Objects<'_>, class: u32, id: u32) -> Option<Refusal>
     ensures { (past : Past) → result ≡ refusal_of (objects_of objects.now) past (calls.Destroy class id) }
 {
     let Some(class) = ObjectClass::from_number(class) else {
@@ -118,7 +119,7 @@ pub(crate) fn destroy_refusal(objects: &Objects, class: u32, id: u32) -> Option<
         ObjectClass::View => refusal_if(objects.view(id).is_some(), objects.uses_view(id)),
         ObjectClass::Shader => refusal_if(objects.shader(id).is_some(), objects.uses_shader(id)),
         ObjectClass::Query => refusal_if(objects.query(id).is_some(), objects.uses_query(id)),
-        ObjectClass::List => Some(Refusal::UnknownList),
+        ObjectClass::List => known_refusal(objects, id),
     }
 }
 

@@ -18,7 +18,7 @@ use dx_types::limits::{CONSTANT_BUFFER, CONSTANT_SLOTS, INDIRECT_ARGUMENTS, SRV_
 const WORD_BYTES: u64 = 4;
 
 /// Why a buffer is not set in a constant slot.
-pub(crate) fn constant_refusal(objects: &Objects, slot: u32, res: u32) -> Option<Refusal>
+pub(crate) fn constant_refusal(objects: &Objects<'_>, slot: u32, res: u32) -> Option<Refusal>
     ensures { (past : Past) → result ≡ refusal_of (objects_of objects.now) past (calls.SetConstant slot res) }
 {
     if slot as usize >= CONSTANT_SLOTS {
@@ -35,7 +35,7 @@ pub(crate) fn constant_refusal(objects: &Objects, slot: u32, res: u32) -> Option
 }
 
 /// Why a view is not set in a shader resource slot.
-pub(crate) fn srv_refusal(objects: &Objects, slot: u32, view: u32) -> Option<Refusal>
+pub(crate) fn srv_refusal(objects: &Objects<'_>, slot: u32, view: u32) -> Option<Refusal>
     ensures { (past : Past) → result ≡ refusal_of (objects_of objects.now) past (calls.SetSrv slot view) }
 {
     if slot as usize >= SRV_SLOTS {
@@ -52,7 +52,7 @@ pub(crate) fn srv_refusal(objects: &Objects, slot: u32, view: u32) -> Option<Ref
 }
 
 /// Why a view is not set in an unordered access slot.
-pub(crate) fn uav_refusal(objects: &Objects, slot: u32, view: u32) -> Option<Refusal>
+pub(crate) fn uav_refusal(objects: &Objects<'_>, slot: u32, view: u32) -> Option<Refusal>
     ensures { (past : Past) → result ≡ refusal_of (objects_of objects.now) past (calls.SetUav slot view) }
 {
     if slot as usize >= UAV_SLOTS {
@@ -70,7 +70,7 @@ pub(crate) fn uav_refusal(objects: &Objects, slot: u32, view: u32) -> Option<Ref
 
 /// Why a predicate is not set.
 pub(crate) fn predication_refusal(
-    objects: &Objects,
+    objects: &Objects<'_>,
     kind: u32,
     id: u32,
     offset: u32,
@@ -103,7 +103,7 @@ fn never_refusal(id: u32, offset: u32, value: u32) -> Option<Refusal>
 }
 
 /// Why a query is no predicate.
-fn query_refusal(objects: &Objects, id: u32, offset: u32) -> Option<Refusal>
+fn query_refusal(objects: &Objects<'_>, id: u32, offset: u32) -> Option<Refusal>
     ensures { result ≡ first_failed (predicate_checks (objects_of objects.now) QUERY_PREDICATE id offset) }
 {
     let Some(query) = objects.query(id) else {
@@ -119,7 +119,7 @@ fn query_refusal(objects: &Objects, id: u32, offset: u32) -> Option<Refusal>
 }
 
 /// Why a word of a buffer is no predicate.
-fn word_refusal(objects: &Objects, res: u32, offset: u32) -> Option<Refusal>
+fn word_refusal(objects: &Objects<'_>, res: u32, offset: u32) -> Option<Refusal>
     ensures { result ≡ first_failed (predicate_checks (objects_of objects.now) WORD_PREDICATE res offset) }
 {
     let Some(shape) = objects.buffer(res) else {

@@ -28,7 +28,7 @@ pub fn decode_created(
 }
 
 /// Why a shader is not created. `spells` says whether its token words spell one.
-pub(crate) fn creation_refusal(objects: &Objects, id: u32, spells: bool) -> Option<Refusal>
+pub(crate) fn creation_refusal(objects: &Objects<'_>, id: u32, spells: bool) -> Option<Refusal>
     ensures { (past : Past) (words : List ℕ) → spells ≡ decodes words
         → result ≡ refusal_of (objects_of objects.now) past (calls.CreateShader id words) }
 {
@@ -44,7 +44,7 @@ pub(crate) fn creation_refusal(objects: &Objects, id: u32, spells: bool) -> Opti
 }
 
 /// Why a shader is not set: no shader with this id is live. Id 0 sets none.
-pub(crate) fn shader_refusal(objects: &Objects, id: u32) -> Option<Refusal>
+pub(crate) fn shader_refusal(objects: &Objects<'_>, id: u32) -> Option<Refusal>
     ensures { (past : Past) → result ≡ refusal_of (objects_of objects.now) past (calls.SetShader id) }
 {
     if id > 0 && objects.shader(id).is_none() {

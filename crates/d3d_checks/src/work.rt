@@ -18,7 +18,7 @@ fn is_no_target(shape: &Shape) -> bool
 
 /// Why a copy of part of a buffer is refused.
 pub(crate) fn copy_region_refusal(
-    objects: &Objects,
+    objects: &Objects<'_>,
     target: u32,
     target_offset: u32,
     source: u32,
@@ -47,7 +47,7 @@ pub(crate) fn copy_region_refusal(
 }
 
 /// Why a copy of a whole buffer is refused.
-pub(crate) fn copy_refusal(objects: &Objects, target: u32, source: u32) -> Option<Refusal>
+pub(crate) fn copy_refusal(objects: &Objects<'_>, target: u32, source: u32) -> Option<Refusal>
     ensures { (past : Past) → result ≡ refusal_of (objects_of objects.now) past (calls.Copy target source) }
 {
     let Some(to) = objects.buffer(target) else {
@@ -69,7 +69,7 @@ pub(crate) fn copy_refusal(objects: &Objects, target: u32, source: u32) -> Optio
 
 /// Why an update of a buffer is refused.
 pub(crate) fn update_refusal(
-    objects: &Objects,
+    objects: &Objects<'_>,
     res: u32,
     offset: u32,
     bytes: &[u8],
@@ -89,7 +89,7 @@ pub(crate) fn update_refusal(
 }
 
 /// Why a clear of a view is refused.
-pub(crate) fn clear_refusal(objects: &Objects, view: u32) -> Option<Refusal>
+pub(crate) fn clear_refusal(objects: &Objects<'_>, view: u32) -> Option<Refusal>
     ensures { (past : Past) (v0 v1 v2 v3 : ℕ)
         → result ≡ refusal_of (objects_of objects.now) past (calls.ClearUav view v0 v1 v2 v3) }
 {

@@ -1,32 +1,28 @@
-use Rattle.std.proofs.Common.{refl, ◌∙◌}
-use Rattle.call_log.specs.Call as calls
-use Rattle.d3d_state.specs.Meaning.{objects_of}
-use Rattle.d3d_checks.proofs.Passes.{unended_verdict}
 use Rattle.d3d_checks.proofs.refusals.setting_refusal.Goals as goal
 
 pub returns-in-SetShader : goal.returns-in-SetShader
-returns-in-SetShader c = λ past tells. rw c.in-SetShader.is (c.shader_refusal.ensures past ∙ unended_verdict (objects_of c.args.objects.now) past (calls.SetShader c.in-SetShader.id) refl refl)
+returns-in-SetShader c = λ past tells. rw c.in-SetShader.is (c.shader_refusal.ensures past)
 
 pub returns-in-SetConstant : goal.returns-in-SetConstant
-returns-in-SetConstant c = λ past tells. rw c.in-SetConstant.is (c.constant_refusal.ensures past ∙ unended_verdict (objects_of c.args.objects.now) past (calls.SetConstant c.in-SetConstant.slot c.in-SetConstant.res) refl refl)
+returns-in-SetConstant c = λ past tells. rw c.in-SetConstant.is (c.constant_refusal.ensures past)
 
 pub returns-in-SetSrv : goal.returns-in-SetSrv
-returns-in-SetSrv c = λ past tells. rw c.in-SetSrv.is (c.srv_refusal.ensures past ∙ unended_verdict (objects_of c.args.objects.now) past (calls.SetSrv c.in-SetSrv.slot c.in-SetSrv.view) refl refl)
+returns-in-SetSrv c = λ past tells. rw c.in-SetSrv.is (c.srv_refusal.ensures past)
 
 pub returns-in-SetUav : goal.returns-in-SetUav
-returns-in-SetUav c = λ past tells. rw c.in-SetUav.is (c.uav_refusal.ensures past ∙ unended_verdict (objects_of c.args.objects.now) past (calls.SetUav c.in-SetUav.slot c.in-SetUav.view) refl refl)
+returns-in-SetUav c = λ past tells. rw c.in-SetUav.is (c.uav_refusal.ensures past)
 
 pub returns-in-SetPredication : goal.returns-in-SetPredication
-returns-in-SetPredication c = λ past tells. rw c.in-SetPredication.is (c.predication_refusal.ensures past ∙ unended_verdict (objects_of c.args.objects.now) past (calls.SetPredication c.in-SetPredication.kind c.in-SetPredication.id c.in-SetPredication.offset c.in-SetPredication.value) refl refl)
+returns-in-SetPredication c = λ past tells. rw c.in-SetPredication.is (c.predication_refusal.ensures past)
 
 pub returns-in-Query : goal.returns-in-Query
-returns-in-Query c = λ past tells. rw c.in-Query.is (c.create_query_refusal.ensures past ∙ unended_verdict (objects_of c.args.objects.now) past (calls.Query c.in-Query.id c.in-Query.sort) refl refl)
+returns-in-Query c = λ past tells. rw c.in-Query.is (c.create_query_refusal.ensures past)
 
 pub returns-in-Begin : goal.returns-in-Begin
-returns-in-Begin c = λ past tells. rw c.in-Begin.is (c.begin_refusal.ensures past ∙ unended_verdict (objects_of c.args.objects.now) past (calls.Begin c.in-Begin.query) refl refl)
+returns-in-Begin c = λ past tells. rw c.in-Begin.is (c.begin_refusal.ensures past)
 
 pub returns-in-EndQuery : goal.returns-in-EndQuery
-returns-in-EndQuery c = λ past tells. rw c.in-EndQuery.is (c.end_refusal.ensures past ∙ unended_verdict (objects_of c.args.objects.now) past (calls.EndQuery c.in-EndQuery.query) refl refl)
+returns-in-EndQuery c = λ past tells. rw c.in-EndQuery.is (c.end_refusal.ensures past)
 
 pub returns-in-GetData : goal.returns-in-GetData
-returns-in-GetData c = λ past tells. rw c.in-GetData.is (c.get_data_refusal.ensures past ∙ unended_verdict (objects_of c.args.objects.now) past (calls.GetData c.in-GetData.query c.in-GetData.flag) refl refl)
+returns-in-GetData c = λ past tells. rw c.in-GetData.is (c.get_data_refusal.ensures past)

@@ -1,7 +1,5 @@
-use Rattle.std.proofs.Common.{◌≡◌, List, refl, ap, ◌∙◌, arith}
+use Rattle.std.proofs.Common.{◌≡◌, refl, ap, ◌∙◌, arith}
 use Rattle.d3d_model.specs.Codes.{class_number}
-use Rattle.d3d_model.specs.D3dState.{Numbered}
-use Rattle.base_lemmas.proofs.Maps.{get-empty}
 use Rattle.d3d_checks.proofs.Classes.{other_class}
 use Rattle.d3d_checks.proofs.resources.destroy_refusal.Goals as goal
 
@@ -20,4 +18,4 @@ returns-in_default c = λ past.
 pub returns-in-List : goal.returns-in-List
 returns-in-List c = λ past.
     let is : c.args.class ≡ 5 = c.in-Some.ensures.known ∙ ap class_number c.in-List.is in
-    rw (is, get-empty (List Numbered) c.args.id) refl
+    rw is c.known_refusal.ensures
