@@ -14,7 +14,7 @@ use dx_types::{ByteList, CallNo, Reply};
 use std::alloc::{AllocError, Global};
 
 /// What a query answers: an event has happened, occlusion is 0 without draws, statistics are the invocations counted.
-fn value(memory: &Memory, objects: &Objects, query: u32) -> u64
+fn value(memory: &Memory, objects: &Objects<'_>, query: u32) -> u64
     ensures { result ≡ query_value (sort_if (ids.get (objects_of objects.now).queries query)) (count_of memory.now query) }
 {
     let Some(asked) = objects.query(query) else {
@@ -32,7 +32,7 @@ pub fn answer(
     alloc: Global,
     n: CallNo,
     memory: &Memory,
-    objects: &Objects,
+    objects: &Objects<'_>,
     call: &Call<'_>,
 ) -> Result<Option<Reply>, AllocError>
     ensures { (past : Past) → IfOk result (λ reply. reply ≡ answer n (met_by (objects_of objects.now) memory.now past) (call_view call.now)) }

@@ -18,7 +18,7 @@ use std::alloc::AllocError;
 pub(crate) fn bind_constants<'a>(
     slots: &mut Slots<'a>,
     memory: &'a Memory,
-    objects: &Objects,
+    objects: &Objects<'_>,
     declared: &[Declared],
 )
     requires limit { InLimits memory.now }
@@ -26,7 +26,7 @@ pub(crate) fn bind_constants<'a>(
     ensures { let o = objects_of objects.now in
         slots.new ≡ with_constants (constant_words o memory.now (bindings_of o 0) declared.now) slots.old }
 {
-    objects.bindings().has_all_slots();
+    objects.bindings(0).has_all_slots();
     'slots: for slot in 0..14 {
         let part = shown_part(memory, constant_shown(objects, declared, slot));
         slots.bind_constant(slot, part);
@@ -37,7 +37,7 @@ pub(crate) fn bind_constants<'a>(
 pub(crate) fn bind_reads<'a>(
     slots: &mut Slots<'a>,
     memory: &'a Memory,
-    objects: &Objects,
+    objects: &Objects<'_>,
     declared: &[Declared],
 )
     requires limit { InLimits memory.now }
@@ -45,7 +45,7 @@ pub(crate) fn bind_reads<'a>(
     ensures { let o = objects_of objects.now in
         slots.new ≡ with_reads (srv_words memory.now (bindings_of o 0) declared.now) slots.old }
 {
-    objects.bindings().has_all_slots();
+    objects.bindings(0).has_all_slots();
     'slots: for slot in 0..16 {
         let part = shown_part(memory, srv_shown(objects, declared, slot));
         slots.bind_read(slot, part);
@@ -82,7 +82,7 @@ fn put(slots: &mut Slots<'_>, slot: usize, part: Option<Whole>)
 pub(crate) fn bind_writes(
     slots: &mut Slots<'_>,
     memory: &Memory,
-    objects: &Objects,
+    objects: &Objects<'_>,
     declared: &[Declared],
 ) -> Result<(), AllocError>
     requires limit { InLimits memory.now }
@@ -91,7 +91,7 @@ pub(crate) fn bind_writes(
     ensures { let b = bindings_of (objects_of objects.now) 0 in
         OnOk result (slots.new ≡ with_writes (uav_words memory.now b declared.now) (uav_around b declared.now) slots.old) }
 {
-    objects.bindings().has_all_slots();
+    objects.bindings(0).has_all_slots();
     'slots: for slot in 0..8 {
         let part = part_copy(memory, uav_shown(objects, declared, slot))?;
         put(slots, slot, part);

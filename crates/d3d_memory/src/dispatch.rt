@@ -31,7 +31,7 @@ struct Ran {
 /// Runs a shader on what the slots show, so many groups of it. The memory stays: the parts are copies.
 fn run_shader(
     memory: &Memory,
-    objects: &Objects,
+    objects: &Objects<'_>,
     shader: &Shader,
     groups: [u32; 3],
 ) -> Result<Ran, AllocError>
@@ -79,14 +79,14 @@ fn store_one(memory: &mut Memory, shown: Option<ResRange>, part: Option<Whole>)
 /// The parts that a dispatch wrote, each over the bytes that its slot shows, by rising slot.
 fn store(
     memory: &mut Memory,
-    objects: &Objects,
+    objects: &Objects<'_>,
     declared: &[Declared],
     mut parts: [Option<Whole>; UAV_SLOTS],
 )
     requires { map around_bound parts ≡ uav_around (bindings_of (objects_of objects.now) 0) declared.now }
     ensures { memory.new ≡ stored memory.old (uavs_shown (bindings_of (objects_of objects.now) 0) declared.now) (map words_bound parts) }
 {
-    objects.bindings().has_all_slots();
+    objects.bindings(0).has_all_slots();
     'slots: for slot in 0..8 {
         let part = take_part(&mut parts, slot);
         store_one(memory, uav_shown(objects, declared, slot), part);
@@ -96,7 +96,7 @@ fn store(
 /// A dispatch of a shader, of so many groups. Want of memory changes nothing.
 pub(crate) fn dispatch_shader(
     memory: &mut Memory,
-    objects: &Objects,
+    objects: &Objects<'_>,
     shader: &Shader,
     groups: [u32; 3],
 ) -> Result<(), AllocError>
@@ -114,14 +114,14 @@ pub(crate) fn dispatch_shader(
 /// of memory changes nothing.
 pub(crate) fn dispatch(
     memory: &mut Memory,
-    objects: &Objects,
+    objects: &Objects<'_>,
     groups: [u32; 3],
 ) -> Result<(), AllocError>
     requires { InLimits memory.old }
     ensures ok { let o = objects_of objects.now in OnOk result (memory.new ≡ dispatched o (bindings_of o 0) groups memory.old) }
     ensures err { OnErr result (memory.new ≡ memory.old) }
 {
-    match objects.shader_now() {
+    match objects.shader_on(0) {
         Some(shader) => dispatch_shader(memory, objects, shader, groups),
         None => Ok(()),
     }

@@ -1,5 +1,6 @@
 ghost use Rattle.std.specs.Prelude.{◌≡◌, ℕ, OnOk, OnErr};
 ghost use Rattle.call_log.specs.View.{call_view};
+ghost use Rattle.base_lemmas.specs.IdMap.{empty};
 ghost use Rattle.d3d_model.specs.Memory.{made, memory_after, run};
 ghost use Rattle.d3d_state.specs.Meaning.{objects_of};
 ghost use Rattle.d3d_memory.specs.Commands.{commanded, is_made};
@@ -39,7 +40,7 @@ fn make(memory: &mut Memory, call: &Call<'_>) -> Result<(), AllocError>
 }
 
 /// What a call does, of the kinds that a predicate may skip, where it isn't skipped.
-fn command(memory: &mut Memory, objects: &Objects, call: &Call<'_>) -> Result<(), AllocError>
+fn command(memory: &mut Memory, objects: &Objects<'_>, call: &Call<'_>) -> Result<(), AllocError>
     requires { InLimits memory.old }
     ensures ok { OnOk result (memory.new ≡ commanded (objects_of objects.now) memory.old (call_view call.now)) }
     ensures err { OnErr result (memory.new ≡ memory.old) }
@@ -72,7 +73,7 @@ fn command(memory: &mut Memory, objects: &Objects, call: &Call<'_>) -> Result<()
 }
 
 /// What a call that may stand in a command list does, played on the immediate context.
-fn run(memory: &mut Memory, objects: &Objects, call: &Call<'_>) -> Result<(), AllocError>
+fn run(memory: &mut Memory, objects: &Objects<'_>, call: &Call<'_>) -> Result<(), AllocError>
     requires { InLimits memory.old }
     ensures ok { OnOk result (memory.new ≡ run (objects_of objects.now) memory.old (call_view call.now)) }
     ensures err { OnErr result (memory.new ≡ memory.old) }
@@ -94,7 +95,7 @@ fn run(memory: &mut Memory, objects: &Objects, call: &Call<'_>) -> Result<(), Al
             Ok(())
         }
         _ => {
-            if memory.is_skipped(objects.bindings().predicate()) {
+            if memory.is_skipped(objects.bindings(0).predicate()) {
                 return Ok(());
             }
             command(memory, objects, call)
@@ -112,15 +113,16 @@ fn is_made(call: &Call<'_>) -> bool
     )
 }
 
-/// What an accepted call on a context does to the memory, with the objects that it meets. Want of memory changes nothing.
+/// What an accepted call on a context does to the memory, with the objects that it meets, where no list is live. Want of memory
+/// changes nothing.
 pub fn accept(
     memory: &mut Memory,
-    objects: &Objects,
+    objects: &Objects<'_>,
     context: u16,
     call: &Call<'_>,
 ) -> Result<(), AllocError>
     requires limit { InLimits memory.old }
-    ensures ok { (n : ℕ) → OnOk result (memory.new ≡ memory_after n (objects_of objects.now) memory.old context (call_view call.now)) }
+    ensures ok { (objects_of objects.now).lists ≡ empty → (n : ℕ) → OnOk result (memory.new ≡ memory_after n (objects_of objects.now) memory.old context (call_view call.now)) }
     ensures err { OnErr result (memory.new ≡ memory.old) }
 {
     if is_made(call) {

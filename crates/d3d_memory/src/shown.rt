@@ -54,7 +54,7 @@ fn fits_slot(d: &Declared, v: &ViewShape) -> bool
 }
 
 /// What a constant buffer shows where a slot for it is declared: no more than it has.
-fn cut(objects: &Objects, declared: Option<Declared>, set: Option<ResRange>) -> Option<ResRange>
+fn cut(objects: &Objects<'_>, declared: Option<Declared>, set: Option<ResRange>) -> Option<ResRange>
     ensures { result ≡ constant_shown (objects_of objects.now) declared set }
 {
     let _ = declared?;
@@ -85,7 +85,7 @@ fn view_shown(declared: Option<Declared>, set: Option<BoundView>) -> Option<ResR
 
 /// What a constant slot, from 0 to 13, shows to a shader with these declarations.
 pub(crate) fn constant_shown(
-    objects: &Objects,
+    objects: &Objects<'_>,
     declared: &[Declared],
     slot: usize,
 ) -> Option<ResRange>
@@ -93,29 +93,37 @@ pub(crate) fn constant_shown(
     ensures { let o = objects_of objects.now in
         result ≡ slice_index_or (constants_shown o (bindings_of o 0) declared.now) slot None }
 {
-    objects.bindings().has_all_slots();
+    objects.bindings(0).has_all_slots();
     let d = declared_slot(declared, CONSTANT, slot);
-    cut(objects, d, objects.bindings().constant(slot))
+    cut(objects, d, objects.bindings(0).constant(slot))
 }
 
 /// What a shader resource slot, from 0 to 15, shows to a shader with these declarations.
-pub(crate) fn srv_shown(objects: &Objects, declared: &[Declared], slot: usize) -> Option<ResRange>
+pub(crate) fn srv_shown(
+    objects: &Objects<'_>,
+    declared: &[Declared],
+    slot: usize,
+) -> Option<ResRange>
     requires { slot < SRV_SLOTS }
     ensures { result ≡ slice_index_or (srvs_shown (bindings_of (objects_of objects.now) 0) declared.now) slot None }
 {
-    objects.bindings().has_all_slots();
+    objects.bindings(0).has_all_slots();
     let d = declared_slot(declared, RESOURCE, slot);
-    view_shown(d, objects.bindings().srv(slot))
+    view_shown(d, objects.bindings(0).srv(slot))
 }
 
 /// What an unordered access slot, from 0 to 7, shows to a shader with these declarations.
-pub(crate) fn uav_shown(objects: &Objects, declared: &[Declared], slot: usize) -> Option<ResRange>
+pub(crate) fn uav_shown(
+    objects: &Objects<'_>,
+    declared: &[Declared],
+    slot: usize,
+) -> Option<ResRange>
     requires { slot < UAV_SLOTS }
     ensures { result ≡ slice_index_or (uavs_shown (bindings_of (objects_of objects.now) 0) declared.now) slot None }
 {
-    objects.bindings().has_all_slots();
+    objects.bindings(0).has_all_slots();
     let d = declared_slot(declared, UNORDERED, slot);
-    view_shown(d, objects.bindings().uav(slot))
+    view_shown(d, objects.bindings(0).uav(slot))
 }
 
 // Whole words from a place of some bytes on, as far as there are.
