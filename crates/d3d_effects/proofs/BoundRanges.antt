@@ -8,15 +8,10 @@ use Rattle.call_log.specs.Call as calls
 use Rattle.call_log.specs.View.{call_view}
 use Rattle.call_log.specs.declared.call.Call as code
 use Rattle.call_log.specs.declared.call.Call.TheVariants as codes
-use Rattle.d3d_model.specs.Binding.{Bindings}
 use Rattle.d3d_model.specs.D3dState.{Objects}
 use Rattle.d3d_model.specs.Past.{Discards, Binds}
-use Rattle.d3d_model.specs.Resource.{Buffers}
 use Rattle.d3d_model.specs.Uses.{range_bound}
 use Rattle.d3d_model.specs.Stream.{range_of}
-use Rattle.d3d_state.specs.Codes.{Views, Queries}
-use Rattle.d3d_state.specs.Shaders.{Shaders}
-use Rattle.d3d_state.specs.Meaning.{objects_from}
 use Rattle.d3d_checks.specs.Accepted.{Accepted}
 use Rattle.d3d_effects.specs.Bound.{bound_of}
 use Rattle.d3d_effects.proofs.Passes.{executes_none}
@@ -44,31 +39,31 @@ pub record IsLoose (c : code.Call) : Type 0 where
   pub clear : (view v0 v1 v2 v3 : ℕ) → c ≡ codes.ClearUav view v0 v1 v2 v3 → ⊥
   pub write : (res mode offset : ℕ) (bytes : Bor (List ℕ)) → c ≡ codes.MapWrite res mode offset bytes → ⊥
 
-pub binds_none : (buffers : Buffers) (views : Views) (shaders : Shaders) (queries : Queries) (b : Bindings) (c : code.Call) → IsLoose c
-    → Accepted (objects_from buffers views shaders queries b) (call_view c) → bound_of (objects_from buffers views shaders queries b) (call_view c) ≡ []
-binds_none buffers views shaders queries b (codes.Buffer id size usage bind misc stride bytes) loose a = refl
-binds_none buffers views shaders queries b (codes.View view res kind form components first count) loose a = refl
-binds_none buffers views shaders queries b (codes.CreateShader id words) loose a = refl
-binds_none buffers views shaders queries b (codes.Query id sort) loose a = refl
-binds_none buffers views shaders queries b (codes.Destroy class id) loose a = refl
-binds_none buffers views shaders queries b (codes.SetShader id) loose a = refl
-binds_none buffers views shaders queries b (codes.SetConstant slot res) loose a = refl
-binds_none buffers views shaders queries b (codes.SetSrv slot view) loose a = refl
-binds_none buffers views shaders queries b (codes.SetUav slot view) loose a = refl
-binds_none buffers views shaders queries b codes.ClearState loose a = refl
-binds_none buffers views shaders queries b (codes.Dispatch x y z) loose a = absurd (loose.dispatch x y z refl)
-binds_none buffers views shaders queries b (codes.DispatchIndirect res offset) loose a = absurd (loose.indirect res offset refl)
-binds_none buffers views shaders queries b (codes.CopyRegion target target_offset source source_offset len) loose a = absurd (loose.region target target_offset source source_offset len refl)
-binds_none buffers views shaders queries b (codes.Copy target source) loose a = absurd (loose.copy target source refl)
-binds_none buffers views shaders queries b (codes.Update res offset bytes) loose a = absurd (loose.update res offset bytes refl)
-binds_none buffers views shaders queries b (codes.ClearUav view v0 v1 v2 v3) loose a = absurd (loose.clear view v0 v1 v2 v3 refl)
-binds_none buffers views shaders queries b (codes.SetPredication kind id offset value) loose a = refl
-binds_none buffers views shaders queries b (codes.Begin query) loose a = refl
-binds_none buffers views shaders queries b (codes.EndQuery query) loose a = refl
-binds_none buffers views shaders queries b (codes.MapWrite res mode offset bytes) loose a = absurd (loose.write res mode offset bytes refl)
-binds_none buffers views shaders queries b (codes.MapRead res flag offset len) loose a = refl
-binds_none buffers views shaders queries b (codes.GetData query flag) loose a = refl
-binds_none buffers views shaders queries b codes.Flush loose a = refl
-binds_none buffers views shaders queries b (codes.FinishList list) loose a = refl
-binds_none buffers views shaders queries b (codes.ExecuteList list flag) loose a = absurd (executes_none buffers views shaders queries b list flag a)
-binds_none buffers views shaders queries b (codes.Draw kind body) loose a = refl
+pub binds_none : (o : Objects) (c : code.Call) → IsLoose c
+    → Accepted o (call_view c) → bound_of o (call_view c) ≡ []
+binds_none o (codes.Buffer id size usage bind misc stride bytes) loose a = refl
+binds_none o (codes.View view res kind form components first count) loose a = refl
+binds_none o (codes.CreateShader id words) loose a = refl
+binds_none o (codes.Query id sort) loose a = refl
+binds_none o (codes.Destroy class id) loose a = refl
+binds_none o (codes.SetShader id) loose a = refl
+binds_none o (codes.SetConstant slot res) loose a = refl
+binds_none o (codes.SetSrv slot view) loose a = refl
+binds_none o (codes.SetUav slot view) loose a = refl
+binds_none o codes.ClearState loose a = refl
+binds_none o (codes.Dispatch x y z) loose a = absurd (loose.dispatch x y z refl)
+binds_none o (codes.DispatchIndirect res offset) loose a = absurd (loose.indirect res offset refl)
+binds_none o (codes.CopyRegion target target_offset source source_offset len) loose a = absurd (loose.region target target_offset source source_offset len refl)
+binds_none o (codes.Copy target source) loose a = absurd (loose.copy target source refl)
+binds_none o (codes.Update res offset bytes) loose a = absurd (loose.update res offset bytes refl)
+binds_none o (codes.ClearUav view v0 v1 v2 v3) loose a = absurd (loose.clear view v0 v1 v2 v3 refl)
+binds_none o (codes.SetPredication kind id offset value) loose a = refl
+binds_none o (codes.Begin query) loose a = refl
+binds_none o (codes.EndQuery query) loose a = refl
+binds_none o (codes.MapWrite res mode offset bytes) loose a = absurd (loose.write res mode offset bytes refl)
+binds_none o (codes.MapRead res flag offset len) loose a = refl
+binds_none o (codes.GetData query flag) loose a = refl
+binds_none o codes.Flush loose a = refl
+binds_none o (codes.FinishList list) loose a = refl
+binds_none o (codes.ExecuteList list flag) loose a = absurd (executes_none o list flag a)
+binds_none o (codes.Draw kind body) loose a = refl

@@ -11,17 +11,13 @@ use Rattle.call_log.specs.Call as calls
 use Rattle.call_log.specs.View.{call_view}
 use Rattle.call_log.specs.declared.call.Call as code
 use Rattle.call_log.specs.declared.call.Call.TheVariants as codes
-use Rattle.d3d_model.specs.Binding.{Bindings}
-use Rattle.d3d_model.specs.D3dState.{Objects}
+use Rattle.d3d_model.specs.D3dState.{Objects, bindings_of}
 use Rattle.d3d_model.specs.Effect.{deeds_by, destroyed, objects_after}
 use Rattle.base_lemmas.specs.IdMap.{get, insert}
 use Rattle.d3d_model.specs.Past.{Past, Deed, Binds, then_done}
 use Rattle.d3d_model.specs.Resource.{Buffers}
 use Rattle.d3d_model.specs.Stream.{binds}
 use Rattle.base_lemmas.proofs.Maps.{get_other, get-remove}
-use Rattle.d3d_state.specs.Codes.{Views, Queries}
-use Rattle.d3d_state.specs.Shaders.{Shaders}
-use Rattle.d3d_state.specs.Meaning.{objects_from}
 use Rattle.d3d_uses.specs.Summary.{Uses, Summarises, Records, RecordsMaking, Forgets}
 use Rattle.d3d_checks.specs.Accepted.{Accepted, Tells}
 use Rattle.d3d_effects.specs.Bound.{bound_of}
@@ -86,60 +82,60 @@ pub record IsPlain (c : code.Call) : Type 0 where
   pub destroy : (class id : ℕ) → c ≡ codes.Destroy class id → ⊥
   pub write : (res mode offset : ℕ) (bytes : Bor (List ℕ)) → c ≡ codes.MapWrite res mode offset bytes → ⊥
 
-pub plain_deeds : (buffers : Buffers) (views : Views) (shaders : Shaders) (queries : Queries) (b : Bindings) (c : code.Call) → IsPlain c → Accepted (objects_from buffers views shaders queries b) (call_view c)
-    → map Binds (bound_of (objects_from buffers views shaders queries b) (call_view c)) ≡ deeds_by (objects_from buffers views shaders queries b) 0 (call_view c)
-plain_deeds buffers views shaders queries b (codes.Buffer id size usage bind misc stride bytes) plain a = absurd (plain.buffer id size usage bind misc stride bytes refl)
-plain_deeds buffers views shaders queries b (codes.View view res kind form components first count) plain a = refl
-plain_deeds buffers views shaders queries b (codes.CreateShader id words) plain a = refl
-plain_deeds buffers views shaders queries b (codes.Query id sort) plain a = refl
-plain_deeds buffers views shaders queries b (codes.Destroy class id) plain a = absurd (plain.destroy class id refl)
-plain_deeds buffers views shaders queries b (codes.SetShader id) plain a = ap (map Binds) (only_bound (binds (objects_from buffers views shaders queries b) b (call_view (codes.SetShader id))))
-plain_deeds buffers views shaders queries b (codes.SetConstant slot res) plain a = ap (map Binds) (only_bound (binds (objects_from buffers views shaders queries b) b (call_view (codes.SetConstant slot res))))
-plain_deeds buffers views shaders queries b (codes.SetSrv slot view) plain a = ap (map Binds) (only_bound (binds (objects_from buffers views shaders queries b) b (call_view (codes.SetSrv slot view))))
-plain_deeds buffers views shaders queries b (codes.SetUav slot view) plain a = ap (map Binds) (only_bound (binds (objects_from buffers views shaders queries b) b (call_view (codes.SetUav slot view))))
-plain_deeds buffers views shaders queries b codes.ClearState plain a = ap (map Binds) (only_bound (binds (objects_from buffers views shaders queries b) b (call_view codes.ClearState)))
-plain_deeds buffers views shaders queries b (codes.Dispatch x y z) plain a = ap (map Binds) (only_bound (binds (objects_from buffers views shaders queries b) b (call_view (codes.Dispatch x y z))))
-plain_deeds buffers views shaders queries b (codes.DispatchIndirect res offset) plain a = ap (map Binds) (only_bound (binds (objects_from buffers views shaders queries b) b (call_view (codes.DispatchIndirect res offset))))
-plain_deeds buffers views shaders queries b (codes.CopyRegion target target_offset source source_offset len) plain a = ap (map Binds) (only_bound (binds (objects_from buffers views shaders queries b) b (call_view (codes.CopyRegion target target_offset source source_offset len))))
-plain_deeds buffers views shaders queries b (codes.Copy target source) plain a = ap (map Binds) (only_bound (binds (objects_from buffers views shaders queries b) b (call_view (codes.Copy target source))))
-plain_deeds buffers views shaders queries b (codes.Update res offset bytes) plain a = ap (map Binds) (only_bound (binds (objects_from buffers views shaders queries b) b (call_view (codes.Update res offset bytes))))
-plain_deeds buffers views shaders queries b (codes.ClearUav view v0 v1 v2 v3) plain a = ap (map Binds) (only_bound (binds (objects_from buffers views shaders queries b) b (call_view (codes.ClearUav view v0 v1 v2 v3))))
-plain_deeds buffers views shaders queries b (codes.SetPredication kind id offset value) plain a = ap (map Binds) (only_bound (binds (objects_from buffers views shaders queries b) b (call_view (codes.SetPredication kind id offset value))))
-plain_deeds buffers views shaders queries b (codes.Begin query) plain a = ap (map Binds) (only_bound (binds (objects_from buffers views shaders queries b) b (call_view (codes.Begin query))))
-plain_deeds buffers views shaders queries b (codes.EndQuery query) plain a = ap (map Binds) (only_bound (binds (objects_from buffers views shaders queries b) b (call_view (codes.EndQuery query))))
-plain_deeds buffers views shaders queries b (codes.MapWrite res mode offset bytes) plain a = absurd (plain.write res mode offset bytes refl)
-plain_deeds buffers views shaders queries b (codes.MapRead res flag offset len) plain a = refl
-plain_deeds buffers views shaders queries b (codes.GetData query flag) plain a = refl
-plain_deeds buffers views shaders queries b codes.Flush plain a = refl
-plain_deeds buffers views shaders queries b (codes.FinishList list) plain a = refl
-plain_deeds buffers views shaders queries b (codes.ExecuteList list flag) plain a = absurd (executes_none buffers views shaders queries b list flag a)
-plain_deeds buffers views shaders queries b (codes.Draw kind body) plain a = ap (map Binds) (only_bound (binds (objects_from buffers views shaders queries b) b (call_view (codes.Draw kind body))))
+pub plain_deeds : (o : Objects) (c : code.Call) → IsPlain c → Accepted o (call_view c)
+    → map Binds (bound_of o (call_view c)) ≡ deeds_by o 0 (call_view c)
+plain_deeds o (codes.Buffer id size usage bind misc stride bytes) plain a = absurd (plain.buffer id size usage bind misc stride bytes refl)
+plain_deeds o (codes.View view res kind form components first count) plain a = refl
+plain_deeds o (codes.CreateShader id words) plain a = refl
+plain_deeds o (codes.Query id sort) plain a = refl
+plain_deeds o (codes.Destroy class id) plain a = absurd (plain.destroy class id refl)
+plain_deeds o (codes.SetShader id) plain a = ap (map Binds) (only_bound (binds o (bindings_of o 0) (call_view (codes.SetShader id))))
+plain_deeds o (codes.SetConstant slot res) plain a = ap (map Binds) (only_bound (binds o (bindings_of o 0) (call_view (codes.SetConstant slot res))))
+plain_deeds o (codes.SetSrv slot view) plain a = ap (map Binds) (only_bound (binds o (bindings_of o 0) (call_view (codes.SetSrv slot view))))
+plain_deeds o (codes.SetUav slot view) plain a = ap (map Binds) (only_bound (binds o (bindings_of o 0) (call_view (codes.SetUav slot view))))
+plain_deeds o codes.ClearState plain a = ap (map Binds) (only_bound (binds o (bindings_of o 0) (call_view codes.ClearState)))
+plain_deeds o (codes.Dispatch x y z) plain a = ap (map Binds) (only_bound (binds o (bindings_of o 0) (call_view (codes.Dispatch x y z))))
+plain_deeds o (codes.DispatchIndirect res offset) plain a = ap (map Binds) (only_bound (binds o (bindings_of o 0) (call_view (codes.DispatchIndirect res offset))))
+plain_deeds o (codes.CopyRegion target target_offset source source_offset len) plain a = ap (map Binds) (only_bound (binds o (bindings_of o 0) (call_view (codes.CopyRegion target target_offset source source_offset len))))
+plain_deeds o (codes.Copy target source) plain a = ap (map Binds) (only_bound (binds o (bindings_of o 0) (call_view (codes.Copy target source))))
+plain_deeds o (codes.Update res offset bytes) plain a = ap (map Binds) (only_bound (binds o (bindings_of o 0) (call_view (codes.Update res offset bytes))))
+plain_deeds o (codes.ClearUav view v0 v1 v2 v3) plain a = ap (map Binds) (only_bound (binds o (bindings_of o 0) (call_view (codes.ClearUav view v0 v1 v2 v3))))
+plain_deeds o (codes.SetPredication kind id offset value) plain a = ap (map Binds) (only_bound (binds o (bindings_of o 0) (call_view (codes.SetPredication kind id offset value))))
+plain_deeds o (codes.Begin query) plain a = ap (map Binds) (only_bound (binds o (bindings_of o 0) (call_view (codes.Begin query))))
+plain_deeds o (codes.EndQuery query) plain a = ap (map Binds) (only_bound (binds o (bindings_of o 0) (call_view (codes.EndQuery query))))
+plain_deeds o (codes.MapWrite res mode offset bytes) plain a = absurd (plain.write res mode offset bytes refl)
+plain_deeds o (codes.MapRead res flag offset len) plain a = refl
+plain_deeds o (codes.GetData query flag) plain a = refl
+plain_deeds o codes.Flush plain a = refl
+plain_deeds o (codes.FinishList list) plain a = refl
+plain_deeds o (codes.ExecuteList list flag) plain a = absurd (executes_none o list flag a)
+plain_deeds o (codes.Draw kind body) plain a = ap (map Binds) (only_bound (binds o (bindings_of o 0) (call_view (codes.Draw kind body))))
 
-pub plain_buffers : (buffers : Buffers) (views : Views) (shaders : Shaders) (queries : Queries) (b : Bindings) (n : ℕ) (c : code.Call) → IsPlain c → Accepted (objects_from buffers views shaders queries b) (call_view c)
-    → (objects_after n (objects_from buffers views shaders queries b) 0 (call_view c)).buffers ≡ buffers
-plain_buffers buffers views shaders queries b n (codes.Buffer id size usage bind misc stride bytes) plain a = absurd (plain.buffer id size usage bind misc stride bytes refl)
-plain_buffers buffers views shaders queries b n (codes.View view res kind form components first count) plain a = refl
-plain_buffers buffers views shaders queries b n (codes.CreateShader id words) plain a = refl
-plain_buffers buffers views shaders queries b n (codes.Query id sort) plain a = refl
-plain_buffers buffers views shaders queries b n (codes.Destroy class id) plain a = absurd (plain.destroy class id refl)
-plain_buffers buffers views shaders queries b n (codes.SetShader id) plain a = refl
-plain_buffers buffers views shaders queries b n (codes.SetConstant slot res) plain a = refl
-plain_buffers buffers views shaders queries b n (codes.SetSrv slot view) plain a = refl
-plain_buffers buffers views shaders queries b n (codes.SetUav slot view) plain a = refl
-plain_buffers buffers views shaders queries b n codes.ClearState plain a = refl
-plain_buffers buffers views shaders queries b n (codes.Dispatch x y z) plain a = refl
-plain_buffers buffers views shaders queries b n (codes.DispatchIndirect res offset) plain a = refl
-plain_buffers buffers views shaders queries b n (codes.CopyRegion target target_offset source source_offset len) plain a = refl
-plain_buffers buffers views shaders queries b n (codes.Copy target source) plain a = refl
-plain_buffers buffers views shaders queries b n (codes.Update res offset bytes) plain a = refl
-plain_buffers buffers views shaders queries b n (codes.ClearUav view v0 v1 v2 v3) plain a = refl
-plain_buffers buffers views shaders queries b n (codes.SetPredication kind id offset value) plain a = refl
-plain_buffers buffers views shaders queries b n (codes.Begin query) plain a = refl
-plain_buffers buffers views shaders queries b n (codes.EndQuery query) plain a = refl
-plain_buffers buffers views shaders queries b n (codes.MapWrite res mode offset bytes) plain a = absurd (plain.write res mode offset bytes refl)
-plain_buffers buffers views shaders queries b n (codes.MapRead res flag offset len) plain a = refl
-plain_buffers buffers views shaders queries b n (codes.GetData query flag) plain a = refl
-plain_buffers buffers views shaders queries b n codes.Flush plain a = refl
-plain_buffers buffers views shaders queries b n (codes.FinishList list) plain a = refl
-plain_buffers buffers views shaders queries b n (codes.ExecuteList list flag) plain a = absurd (executes_none buffers views shaders queries b list flag a)
-plain_buffers buffers views shaders queries b n (codes.Draw kind body) plain a = refl
+pub plain_buffers : (o : Objects) (n : ℕ) (c : code.Call) → IsPlain c → Accepted o (call_view c)
+    → (objects_after n o 0 (call_view c)).buffers ≡ o.buffers
+plain_buffers o n (codes.Buffer id size usage bind misc stride bytes) plain a = absurd (plain.buffer id size usage bind misc stride bytes refl)
+plain_buffers o n (codes.View view res kind form components first count) plain a = refl
+plain_buffers o n (codes.CreateShader id words) plain a = refl
+plain_buffers o n (codes.Query id sort) plain a = refl
+plain_buffers o n (codes.Destroy class id) plain a = absurd (plain.destroy class id refl)
+plain_buffers o n (codes.SetShader id) plain a = refl
+plain_buffers o n (codes.SetConstant slot res) plain a = refl
+plain_buffers o n (codes.SetSrv slot view) plain a = refl
+plain_buffers o n (codes.SetUav slot view) plain a = refl
+plain_buffers o n codes.ClearState plain a = refl
+plain_buffers o n (codes.Dispatch x y z) plain a = refl
+plain_buffers o n (codes.DispatchIndirect res offset) plain a = refl
+plain_buffers o n (codes.CopyRegion target target_offset source source_offset len) plain a = refl
+plain_buffers o n (codes.Copy target source) plain a = refl
+plain_buffers o n (codes.Update res offset bytes) plain a = refl
+plain_buffers o n (codes.ClearUav view v0 v1 v2 v3) plain a = refl
+plain_buffers o n (codes.SetPredication kind id offset value) plain a = refl
+plain_buffers o n (codes.Begin query) plain a = refl
+plain_buffers o n (codes.EndQuery query) plain a = refl
+plain_buffers o n (codes.MapWrite res mode offset bytes) plain a = absurd (plain.write res mode offset bytes refl)
+plain_buffers o n (codes.MapRead res flag offset len) plain a = refl
+plain_buffers o n (codes.GetData query flag) plain a = refl
+plain_buffers o n codes.Flush plain a = refl
+plain_buffers o n (codes.FinishList list) plain a = refl
+plain_buffers o n (codes.ExecuteList list flag) plain a = absurd (executes_none o list flag a)
+plain_buffers o n (codes.Draw kind body) plain a = refl

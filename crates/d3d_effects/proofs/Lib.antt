@@ -3,3 +3,4 @@ mod NoEffect
 mod BoundRanges
 mod Slots
 mod Kept
+pub mod Unlisted

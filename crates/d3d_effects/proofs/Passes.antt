@@ -1,16 +1,15 @@
 -- What is known of a call of the immediate context that is accepted.
-use Rattle.std.proofs.Common.{◌≡◌, ℕ, ◌≤◌, Bool, true, false, not, ◌||◌, List, [], ◌∷◌, ◌++◌, Option, Some, None, refl, sym, ◌∙◌, arith}
+use Rattle.std.proofs.Common.{◌≡◌, ℕ, ◌≤◌, Bool, true, false, not, ◌||◌, List, [], ◌∷◌, ◌++◌, Option, Some, None, refl, sym, ap, ◌∙◌, arith}
 use Rattle.std.specs.Prelude.{◌==◌, nat_lt, is_some, if◌then◌else◌}
 use Rattle.std.proofs.lemmas.Bool.Decides.{nat_tests}
 use Rattle.dx_types.specs.declared.refusal.Refusal.TheVariants.{IdInUse, BadUsage, BadSize, OutOfRange, TooMuchMemory, WrongContext, UnknownList}
 use Rattle.dx_types.specs.declared.shape.Shape.{Shape}
 use Rattle.call_log.specs.Call as calls
 use Rattle.call_log.specs.Call.{Call}
-use Rattle.d3d_model.specs.Binding.{Bindings}
 use Rattle.d3d_model.specs.Check.{Check, first_failed, is_id}
 use Rattle.d3d_model.specs.D3dState.{Objects, Numbered, Shader, buffer_of}
-use Rattle.base_lemmas.specs.IdMap.{get, empty}
-use Rattle.d3d_model.specs.Resource.{Buffers, is_one}
+use Rattle.base_lemmas.specs.IdMap.{IdMap, get, empty}
+use Rattle.d3d_model.specs.Resource.{is_one}
 use Rattle.d3d_model.specs.Shader.{decodes}
 use Rattle.d3d_model.specs.Verdict.{buffer_checks, call_checks, is_too_long, is_wrong_at, is_wrong_data, is_wrong_usage, place_of, unused_buffer, unused_view, unused_shader, unused_query}
 use Rattle.d3d_model.specs.View.{view_end}
@@ -20,9 +19,6 @@ use Rattle.d3d_model.specs.Past.{Past}
 use Rattle.d3d_checks.proofs.Passes.{unended}
 use Rattle.d3d_resources.specs.Creation.{table_checks, shape_of}
 use Rattle.d3d_resources.proofs.CheckOrder.{whole_order}
-use Rattle.d3d_state.specs.Codes.{Views, Queries}
-use Rattle.d3d_state.specs.Shaders.{Shaders}
-use Rattle.d3d_state.specs.Meaning.{objects_from}
 use Rattle.d3d_views.proofs.Spans.{ends_inside}
 use Rattle.d3d_checks.specs.Accepted.{Accepted}
 use Rattle.d3d_checks.specs.Created.{shader_made}
@@ -95,33 +91,29 @@ refuses false false false false true true a b c d rest e1 e2 e3 e4 eu e = absurd
 refuses false false false false true false a b c d rest e1 e2 e3 e4 eu e = absurd cc
 refuses false false false false false unlisted a b c d rest e1 e2 e3 e4 eu e = absurd cc
 
+none_listed : (id : ℕ) → not (is_some (get {X = List Numbered} empty id)) ≡ true
+none_listed id = rw (get-empty (List Numbered) id) refl
+
 -- what is destroyed is a buffer, a view, a shader or a query
-pub destroys_live : (buffers : Buffers) (views : Views) (shaders : Shaders) (queries : Queries) (b : Bindings) (class id : ℕ) → Accepted (objects_from buffers views shaders queries b) (calls.Destroy class id)
+pub destroys_live : (o : Objects) (class id : ℕ) → Accepted o (calls.Destroy class id)
     → (class ≡ 1 → ⊥) → (class ≡ 2 → ⊥) → (class ≡ 3 → ⊥) → (class ≡ 4 → ⊥) → ⊥
-destroys_live buffers views shaders queries b class id a not1 not2 not3 not4 =
-    let o = objects_from buffers views shaders queries b in
-    refuses (class == 1) (class == 2) (class == 3) (class == 4) (class == 5) (not (is_some (get {X = List Numbered} empty id)))
+destroys_live o class id a not1 not2 not3 not4 =
+    refuses (class == 1) (class == 2) (class == 3) (class == 4) (class == 5) (not (is_some (get o.lists id)))
     (unused_buffer o id) (unused_view o id) (unused_shader o id) (unused_query o id) ((false, TooMuchMemory) ∷ [])
-    (differs class 1 not1) (differs class 2 not2) (differs class 3 not3) (differs class 4 not4) (rw (get-empty (List Numbered) id) refl) a.passes
+    (differs class 1 not1) (differs class 2 not2) (differs class 3 not3) (differs class 4 not4) (ap (λ (m : IdMap (List Numbered)). not (is_some (get m id))) a.unlisted ∙ none_listed id) a.passes
 
 -- no list is live that could be executed
-pub executes_none : (buffers : Buffers) (views : Views) (shaders : Shaders) (queries : Queries) (b : Bindings) (list flag : ℕ) → Accepted (objects_from buffers views shaders queries b) (calls.ExecuteList list flag) → ⊥
-executes_none buffers views shaders queries b list flag a =
-    let passed = rw (get-empty (List Numbered) list) at (all_passed (all_checks (objects_from buffers views shaders queries b) a.past (calls.ExecuteList list flag)) a.passes) in
-    apart passed.1.0
+pub executes_none : (o : Objects) (list flag : ℕ) → Accepted o (calls.ExecuteList list flag) → ⊥
+executes_none o list flag a =
+    let passed = all_passed (all_checks o a.past (calls.ExecuteList list flag)) a.passes in
+    apart (sym (ap (λ (m : IdMap (List Numbered)). not (is_some (get m list))) a.unlisted ∙ none_listed list) ∙ passed.1.0)
 
 known_not : (class k : ℕ) → true ≡ (nat_lt class 1 || nat_lt 5 class) → 1 ≤ k → k ≤ 5 → class ≡ k → ⊥
 known_not class k h least most e = absurd (grind (arith, nat_tests))
 
 -- nothing is destroyed of a class that there is not
-pub destroys_known : (buffers : Buffers) (views : Views) (shaders : Shaders) (queries : Queries) (b : Bindings) (class id : ℕ) → Accepted (objects_from buffers views shaders queries b) (calls.Destroy class id)
+pub destroys_known : (o : Objects) (class id : ℕ) → Accepted o (calls.Destroy class id)
     → true ≡ (nat_lt class 1 || nat_lt 5 class) → ⊥
-destroys_known buffers views shaders queries b class id a unknown =
-    destroys_live buffers views shaders queries b class id a (known_not class 1 unknown (omega arith) (omega arith)) (known_not class 2 unknown (omega arith) (omega arith))
+destroys_known o class id a unknown =
+    destroys_live o class id a (known_not class 1 unknown (omega arith) (omega arith)) (known_not class 2 unknown (omega arith) (omega arith))
     (known_not class 3 unknown (omega arith) (omega arith)) (known_not class 4 unknown (omega arith) (omega arith))
-
--- no command list is destroyed
-pub destroys_no_list : (buffers : Buffers) (views : Views) (shaders : Shaders) (queries : Queries) (b : Bindings) (class id : ℕ) → Accepted (objects_from buffers views shaders queries b) (calls.Destroy class id)
-    → class ≡ 5 → ⊥
-destroys_no_list buffers views shaders queries b class id a e =
-    destroys_live buffers views shaders queries b class id a (λ f. absurd (omega (arith, e, f))) (λ f. absurd (omega (arith, e, f))) (λ f. absurd (omega (arith, e, f))) (λ f. absurd (omega (arith, e, f)))

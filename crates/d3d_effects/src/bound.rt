@@ -19,7 +19,7 @@ use std::alloc::AllocError;
 /// Appends the ranges that an accepted call of the immediate context binds.
 pub fn push_bound(
     ranges: &mut Vec<ResRange>,
-    objects: &Objects,
+    objects: &Objects<'_>,
     call: &Call<'_>,
 ) -> Result<(), AllocError>
     requires { Accepted (objects_of objects.now) (call_view call.now) }
@@ -93,7 +93,7 @@ fn range_written(res: u32, offset: u32, bytes: &[u8]) -> Option<ResRange>
 }
 
 /// All bytes of a live buffer.
-fn whole_of(objects: &Objects, res: u32) -> Option<ResRange>
+fn whole_of(objects: &Objects<'_>, res: u32) -> Option<ResRange>
     ensures { option_to_list result ≡ whole_of (objects_of objects.now) res }
 {
     let shape = objects.buffer(res)?;
@@ -101,7 +101,7 @@ fn whole_of(objects: &Objects, res: u32) -> Option<ResRange>
 }
 
 /// The bytes of a live view.
-fn range_of_view(objects: &Objects, view: u32) -> Option<ResRange>
+fn range_of_view(objects: &Objects<'_>, view: u32) -> Option<ResRange>
     ensures { result ≡ bound_range (bound_view (objects_of objects.now) view) }
 {
     let bound = objects.bound_view(view)?;
@@ -124,7 +124,7 @@ pub(crate) fn push_some(
 /// Appends two ranges, as far as they have bytes; and if one has, the word that the predicate reads.
 fn push_predicated(
     ranges: &mut Vec<ResRange>,
-    objects: &Objects,
+    objects: &Objects<'_>,
     one: Option<ResRange>,
     two: Option<ResRange>,
 ) -> Result<(), AllocError>
@@ -134,7 +134,7 @@ fn push_predicated(
     push_some(ranges, one)?;
     push_some(ranges, two)?;
     if one.is_some() || two.is_some() {
-        push_some(ranges, objects.bindings().predicate_word())?;
+        push_some(ranges, objects.bindings(0).predicate_word())?;
     }
     Ok(())
 }

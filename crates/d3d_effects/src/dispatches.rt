@@ -15,12 +15,12 @@ use dx_types::limits::{CONSTANT_SLOTS, SRV_SLOTS, UAV_SLOTS};
 use std::alloc::AllocError;
 
 /// What a constant slot, from 0 to 13, binds: no more than its buffer has.
-fn constant_bound(objects: &Objects, slot: usize) -> Option<ResRange>
+fn constant_bound(objects: &Objects<'_>, slot: usize) -> Option<ResRange>
     requires { slot < CONSTANT_SLOTS }
     ensures { let o = objects_of objects.now in
         result ≡ option_map (cut o) (slice_index_or (bindings_of o 0).constants slot None) }
 {
-    let range = objects.bindings().constant(slot)?;
+    let range = objects.bindings(0).constant(slot)?;
     let size = match objects.buffer(range.res) {
         Some(shape) => shape.size,
         None => 0,
@@ -32,29 +32,29 @@ fn constant_bound(objects: &Objects, slot: usize) -> Option<ResRange>
 }
 
 /// What a shader resource slot, from 0 to 15, binds.
-fn srv_bound(objects: &Objects, slot: usize) -> Option<ResRange>
+fn srv_bound(objects: &Objects<'_>, slot: usize) -> Option<ResRange>
     requires { slot < SRV_SLOTS }
     ensures { result ≡ bound_range (slice_index_or (bindings_of (objects_of objects.now) 0).srvs slot None) }
 {
-    let bound = objects.bindings().srv(slot)?;
+    let bound = objects.bindings(0).srv(slot)?;
     Some(view_range(&bound.shape))
 }
 
 /// What an unordered access slot, from 0 to 7, binds.
-fn uav_bound(objects: &Objects, slot: usize) -> Option<ResRange>
+fn uav_bound(objects: &Objects<'_>, slot: usize) -> Option<ResRange>
     requires { slot < UAV_SLOTS }
     ensures { result ≡ bound_range (slice_index_or (bindings_of (objects_of objects.now) 0).uavs slot None) }
 {
-    let bound = objects.bindings().uav(slot)?;
+    let bound = objects.bindings(0).uav(slot)?;
     Some(view_range(&bound.shape))
 }
 
 /// Appends what the constant slots bind, by rising slot.
-fn push_constants(ranges: &mut Vec<ResRange>, objects: &Objects) -> Result<(), AllocError>
+fn push_constants(ranges: &mut Vec<ResRange>, objects: &Objects<'_>) -> Result<(), AllocError>
     ensures { let o = objects_of objects.now in
         OnOk result (ranges.new.items ≡ ranges.old.items ++ map (cut o) (constant_ranges (bindings_of o 0))) }
 {
-    objects.bindings().has_all_slots();
+    objects.bindings(0).has_all_slots();
     'slots: for slot in 0..CONSTANT_SLOTS {
         push_some(ranges, constant_bound(objects, slot))?;
     }
@@ -62,11 +62,11 @@ fn push_constants(ranges: &mut Vec<ResRange>, objects: &Objects) -> Result<(), A
 }
 
 /// Appends what the shader resource slots bind, by rising slot.
-fn push_srvs(ranges: &mut Vec<ResRange>, objects: &Objects) -> Result<(), AllocError>
+fn push_srvs(ranges: &mut Vec<ResRange>, objects: &Objects<'_>) -> Result<(), AllocError>
     ensures { OnOk result (ranges.new.items
         ≡ ranges.old.items ++ filter_map bound_range (bindings_of (objects_of objects.now) 0).srvs) }
 {
-    objects.bindings().has_all_slots();
+    objects.bindings(0).has_all_slots();
     'slots: for slot in 0..SRV_SLOTS {
         push_some(ranges, srv_bound(objects, slot))?;
     }
@@ -74,11 +74,11 @@ fn push_srvs(ranges: &mut Vec<ResRange>, objects: &Objects) -> Result<(), AllocE
 }
 
 /// Appends what the unordered access slots bind, by rising slot.
-fn push_uavs(ranges: &mut Vec<ResRange>, objects: &Objects) -> Result<(), AllocError>
+fn push_uavs(ranges: &mut Vec<ResRange>, objects: &Objects<'_>) -> Result<(), AllocError>
     ensures { OnOk result (ranges.new.items
         ≡ ranges.old.items ++ filter_map bound_range (bindings_of (objects_of objects.now) 0).uavs) }
 {
-    objects.bindings().has_all_slots();
+    objects.bindings(0).has_all_slots();
     'slots: for slot in 0..UAV_SLOTS {
         push_some(ranges, uav_bound(objects, slot))?;
     }
@@ -87,12 +87,15 @@ fn push_uavs(ranges: &mut Vec<ResRange>, objects: &Objects) -> Result<(), AllocE
 
 /// Appends the ranges that a dispatch binds: of the constants, the shader resources and the unordered access views, and then
 /// the predicate's word.
-pub(crate) fn push_dispatch(ranges: &mut Vec<ResRange>, objects: &Objects) -> Result<(), AllocError>
+pub(crate) fn push_dispatch(
+    ranges: &mut Vec<ResRange>,
+    objects: &Objects<'_>,
+) -> Result<(), AllocError>
     ensures { let o = objects_of objects.now in
         OnOk result (ranges.new.items ≡ ranges.old.items ++ dispatch_ranges o (bindings_of o 0)) }
 {
     push_constants(ranges, objects)?;
     push_srvs(ranges, objects)?;
     push_uavs(ranges, objects)?;
-    push_some(ranges, objects.bindings().predicate_word())
+    push_some(ranges, objects.bindings(0).predicate_word())
 }

@@ -18,7 +18,7 @@ use d3d_model::ObjectClass;
 use d3d_model::codes::{
     EVENT_QUERY, NO_PREDICATE, OCCLUSION_QUERY, QUERY_PREDICATE, STATISTICS_QUERY,
 };
-use d3d_state::{LiveShader, Objects, Query, Sort};
+use d3d_state::{LiveShader, Objects, Query, Setting, Sort};
 use d3d_views::Predicate;
 use dx_types::CallNo;
 use std::alloc::AllocError;
@@ -26,7 +26,7 @@ use std::alloc::AllocError;
 /// Does to the objects what an accepted call n of the immediate context does. `shader` is the shader that it creates, if it
 /// creates one. Want of memory changes nothing.
 pub fn apply(
-    objects: &mut Objects,
+    objects: &mut Objects<'_>,
     n: CallNo,
     call: &Call<'_>,
     shader: Option<LiveShader>,
@@ -80,7 +80,7 @@ pub fn apply(
 }
 
 /// Creates the view that is asked for.
-fn create_view(objects: &mut Objects, ask: &NewView) -> Result<(), AllocError>
+fn create_view(objects: &mut Objects<'_>, ask: &NewView) -> Result<(), AllocError>
     requires { Accepted (objects_of objects.old) (view_call ask.now) }
     ensures applied { OnOk result (objects_of objects.new
         ≡ objects_after 0 (objects_of objects.old) 0 (view_call ask.now)) }
@@ -94,7 +94,7 @@ fn create_view(objects: &mut Objects, ask: &NewView) -> Result<(), AllocError>
 
 /// Creates a shader, which there is where its creation is accepted.
 fn create_shader(
-    objects: &mut Objects,
+    objects: &mut Objects<'_>,
     id: u32,
     shader: Option<LiveShader>,
 ) -> Result<(), AllocError>
@@ -109,32 +109,41 @@ fn create_shader(
 }
 
 /// Does what a call does that creates nothing.
-fn change(objects: &mut Objects, n: CallNo, call: &Call<'_>)
+fn change(objects: &mut Objects<'_>, n: CallNo, call: &Call<'_>)
     requires accepted { Accepted (objects_of objects.old) (call_view call.now) }
     requires no_creation { is_creation (call_view call.now) ≡ false }
     ensures { objects_of objects.new ≡ objects_after n (objects_of objects.old) 0 (call_view call.now) }
 {
     match *call {
         Call::Destroy { class, id } => destroy(objects, class, id),
-        Call::SetShader { id } => objects.set_shader(id),
-        Call::SetConstant { slot, res } => objects.set_constant(slot, res),
-        Call::SetSrv { slot, view } => objects.set_srv(slot, view),
-        Call::SetUav { slot, view } => objects.set_uav(slot, view),
-        Call::ClearState => objects.clear_state(),
+        Call::SetShader { id } => objects.set(0, Setting::Shader(id)),
+        Call::SetConstant { slot, res } => objects.set(0, Setting::Constant { slot, res }),
+        Call::SetSrv { slot, view } => {
+            let view = objects.bound_view(view);
+            objects.set(0, Setting::Srv { slot, view });
+        }
+        Call::SetUav { slot, view } => {
+            let view = objects.bound_view(view);
+            objects.set(0, Setting::Uav { slot, view });
+        }
+        Call::ClearState => objects.set(0, Setting::Default),
         Call::SetPredication {
             kind,
             id,
             offset,
             value,
-        } => objects.set_predicate(predicate_from(kind, id, offset, value)),
+        } => {
+            let predicate = predicate_from(kind, id, offset, value);
+            objects.set(0, Setting::Predicate(predicate));
+        }
         Call::Begin { query } => objects.begin(query),
         Call::EndQuery { query } => objects.end(query, n),
         _ => {}
     }
 }
 
-/// Destroys a live object. No command list is live.
-fn destroy(objects: &mut Objects, class: u32, id: u32)
+/// Destroys a live object.
+fn destroy(objects: &mut Objects<'_>, class: u32, id: u32)
     requires { Accepted (objects_of objects.old) (calls.Destroy class id) }
     ensures { objects_of objects.new ≡ objects_after 0 (objects_of objects.old) 0 (calls.Destroy class id) }
 {
@@ -146,7 +155,7 @@ fn destroy(objects: &mut Objects, class: u32, id: u32)
         ObjectClass::View => objects.destroy_view(id),
         ObjectClass::Shader => objects.destroy_shader(id),
         ObjectClass::Query => objects.destroy_query(id),
-        ObjectClass::List => unreachable!(),
+        ObjectClass::List => objects.destroy_list(id),
     }
 }
 

@@ -9,9 +9,9 @@ use Rattle.d3d_effects.proofs.bound.push_bound.Goals as goal
 
 pub returns-in_default : goal.returns-in_default
 returns-in_default c =
-    let o = c.args.objects.now in
+    let o = objects_of c.args.objects.now in
     let d = c.in_default in
-    let none = binds_none o.buffers o.views o.shaders o.queries o.bindings c.args.call.now
+    let none = binds_none o c.args.call.now
     (record { dispatch = d.not-Dispatch; indirect = d.not-DispatchIndirect; region = d.not-CopyRegion; copy = d.not-Copy; update = d.not-Update; clear = d.not-ClearUav; write = d.not-MapWrite }) c.requires in
     rw none (sym (append-nil c.args.ranges.now.items))
 

@@ -38,6 +38,6 @@ returns-in_default c =
     let o = objects_of s in
     tells_records past o (objects_after c.args.n o 0 (call_view c.args.call.now)) c.args.uses.now c.bound_all-in_default.new.self c.args.n
     (deeds_by o 0 (call_view c.args.call.now)) (map Binds c.args.bound.now)
-    (plain_buffers s.buffers s.views s.shaders s.queries s.bindings c.args.n c.args.call.now plain accepted)
-    (ap (λ (rs : List ResRange). map Binds rs) bound ∙ plain_deeds s.buffers s.views s.shaders s.queries s.bindings c.args.call.now plain accepted) records tells)
+    (plain_buffers o c.args.n c.args.call.now plain accepted)
+    (ap (λ (rs : List ResRange). map Binds rs) bound ∙ plain_deeds o c.args.call.now plain accepted) records tells)
     c.bound_all-in_default.ensures.bound
