@@ -12,8 +12,9 @@ use Rattle.d3d_model.specs.Verdict.{verdict}
 use Rattle.d3d_state.specs.Meaning.{objects_of}
 use Rattle.d3d_state.specs.declared.objects.Objects as code
 use Rattle.d3d_uses.specs.Summary.{Uses}
-use Rattle.d3d_checks.specs.Accepted.{Tells, is_built, is_draw}
+use Rattle.d3d_checks.specs.Accepted.{Accepted, Tells, is_built, is_draw}
 use Rattle.d3d_effects.specs.Bound.{bound_of}
+use Rattle.d3d_effects.proofs.Unlisted.{stays_unlisted}
 use Rattle.d3d_checks.specs.Created.{shader_made, token_words}
 use Rattle.d3d_plan.specs.Planned.{Planned, planned_by, shader_unless, span_in, words_unless}
 use Rattle.d3d_plan.specs.Stands.{Stands}
@@ -36,6 +37,13 @@ planned_with n at s i why = record { verdict = why; last_use = use_unless s i.ca
 pub state_refused : (n : ℕ) (s : State) (i : Issued) (why : Refusal) → Some why ≡ verdict_in s i → s ≡ unless_refused n s i (verdict_in s i)
 state_refused n s i why e = ap (unless_refused n s i) e
 
+-- what is kept stands after a call that is refused
+pub stands_refused : (n : ℕ) (s : State) (i : Issued) (why : Refusal) (old new : code.Objects) (before after : Uses) → Some why ≡ verdict_in s i → new ≡ old → after ≡ before → Stands s old before
+    → Stands (unless_refused n s i (verdict_in s i)) new after
+stands_refused n s i why old new before after e eo eu st =
+    subst (λ (t : State). Stands t new after) (state_refused n s i why e)
+    (subst (λ (u : Uses). Stands s new u) (sym eu) (subst (λ (o : code.Objects). Stands s o before) (sym eo) st))
+
 pub planned_refused : (n at : ℕ) (s : State) (i : Issued) (why : Refusal) → Some why ≡ verdict_in s i
     → record { verdict = Some why; last_use = None; bound = []; words = None; shader = None } ≡ planned_by n at s (Some i)
 planned_refused n at s i why e = ap (planned_with n at s i) e
@@ -53,8 +61,10 @@ planned_accepted n at s context c e zero =
 pub stands_after : (n : ℕ) (s : State) (c : Call) (old new : code.Objects) (before after : Uses) → Stands s old before
     → objects_of new ≡ objects_after n (objects_of old) 0 c
     → Tells (then_done n s.past (deeds_by (objects_of old) 0 c)) (objects_after n (objects_of old) 0 c) after
+    → Accepted (objects_of old) c
     → Stands (accepted n s 0 c) new after
-stands_after n s c old new before after st applied tells = record {
+stands_after n s c old new before after st applied tells accepts = record {
+  unlisted = ap (λ (o : Objects). o.lists) applied ∙ stays_unlisted n (objects_of old) c accepts;
   same = applied ∙ ap (λ (o : Objects). objects_after n o 0 c) st.same;
   tells = subst (λ (o : Objects). Tells (then_done n s.past (deeds_by o 0 c)) (objects_of new) after) st.same
       (subst (λ (o : Objects). Tells (then_done n s.past (deeds_by (objects_of old) 0 c)) o after) (sym applied) tells);

@@ -29,7 +29,7 @@ fn plan_calls(alloc: Global, log: &Log<'_>) -> Result<Plan, AllocError>
     requires { IsPlayable log.now.frames }
     ensures { IfOk result (λ p. p ≡ plan_of (calls_of log.now.frames) (length log.now.frames)) }
 {
-    let mut planner = Planner::new(alloc);
+    let mut planner = Planner::new(alloc)?;
     'calls: for i in 0..log.count() {
         let Some(item) = log.item(i + 1) else {
             unreachable!();

@@ -23,10 +23,11 @@ use std::alloc::{AllocError, Global};
 /// How many bytes of a record stand before a shader's token words: its head, and the shader's id.
 const WORDS_IN_RECORD: u64 = 12;
 
-/// What a planner keeps from call to call: the live objects, what is asked of the past, and the tables so far.
+/// What a planner keeps from call to call: the live objects, what is asked of the past, and the tables so far. No call is
+/// recorded yet, so nothing is lent from a log.
 #[derive(Drop)]
 pub(crate) struct Planner {
-    pub(crate) objects: Objects,
+    pub(crate) objects: Objects<'static>,
     pub(crate) uses: Uses,
     pub(crate) entries: Vec<Entry>,
     pub(crate) ranges: Vec<ResRange>,
@@ -34,16 +35,17 @@ pub(crate) struct Planner {
 
 impl Planner {
     /// Before the first call.
-    pub(crate) fn new(alloc: Global) -> Planner
-        ensures stands { Stands initial result.objects result.uses }
-        ensures shows { Shows result.entries.items result.ranges.items [] }
+    pub(crate) fn new(alloc: Global) -> Result<Planner, AllocError>
+        ensures stands { IfOk result (λ p. Stands initial p.objects p.uses) }
+        ensures shows { IfOk result (λ p. Shows p.entries.items p.ranges.items []) }
     {
-        Planner {
-            objects: Objects::new(alloc),
+        let objects = Objects::new(alloc)?;
+        Ok(Planner {
+            objects,
             uses: Uses::new(alloc),
             entries: Vec::new(alloc),
             ranges: Vec::new(alloc),
-        }
+        })
     }
 
     /// Plans call n of the log, whose record begins at byte `at` of the input.
@@ -124,7 +126,7 @@ impl Planner {
 }
 
 /// The call that an accepted readback, or an accepted question for a query's result, waits for.
-fn last_use(objects: &Objects, uses: &Uses, call: &Call<'_>) -> Option<CallNo>
+fn last_use(objects: &Objects<'_>, uses: &Uses, call: &Call<'_>) -> Option<CallNo>
     requires { Accepted (objects_of objects.now) (call_view call.now) }
     ensures { (s : State) → Stands s objects.now uses.now → result ≡ use_in s (call_view call.now) }
 {

@@ -14,7 +14,7 @@ use Rattle.d3d_plan.proofs.make.plan_calls.Goals as goal
 
 pub calls-init : goal.calls-init
 unfolding after_calls plan_of
-calls-init c = record { stands = c.new-planner.ensures.stands; shows = c.new-planner.ensures.shows; place = refl }
+calls-init c = record { stands = c.in_ok-planner.ensures.stands; shows = c.in_ok-planner.ensures.shows; place = refl }
 
 pub unreachable-requires : goal.unreachable-requires
 unreachable-requires c = omega (arith, past_all c.args.log.now.frames c.calls.i c.in_default.ensures.record, c.count-i-end.ensures.count)

@@ -25,7 +25,7 @@ returns-clause-stands c =
     let own = last_part old.ranges.items (bound_of (objects_of old.objects) call) c.deref.result.now c.len-start.result (c.deref.ensures.value ∙ c.in_ok-push_bound.ensures) starts in
     always c.push_entry.result
     (λ s st. stands_after c.args.n s call old.objects c.apply.new.objects old.uses c.keep_call.new.uses st c.in_ok-apply.ensures.applied
-    (c.in_ok-keep_call.ensures s.past old.objects c.requires.accepted own st.tells))
+    (c.in_ok-keep_call.ensures s.past old.objects c.requires.accepted own st.tells) c.requires.accepted)
 
 pub returns-clause-shows : goal.returns-clause-shows
 returns-clause-shows c =
