@@ -17,6 +17,8 @@ use Rattle.d3d_model.specs.InOrder.{State, accepted, unless_refused, verdict_in,
 use Rattle.d3d_model.specs.ReplyText.{none_pending, answer, answer_or_still, reply_unless, reply_to, reply_at}
 use Rattle.base_lemmas.proofs.Maps.{get-empty}
 use Rattle.d3d_checks.specs.Accepted.{Accepted, is_draw, is_unbuilt}
+use Rattle.d3d_checks.proofs.Passes.{on_immediate}
+use Rattle.d3d_effects.proofs.Unlisted.{stays_unlisted}
 use Rattle.d3d_memory.specs.Meeting.{met_by}
 use Rattle.d3d_ref.specs.Stands.{Stands}
 
@@ -28,7 +30,7 @@ state_stays log zero none = refl
 state_stays log (suc n) none = ap (after_call (suc n) (after_calls log n)) none
 
 stands_at : (o : Objects) (m : Memory) (s t : State) → t ≡ s → Stands o m s → Stands o m t
-stands_at o m s t e h = record { objects = h.objects ∙ ap (λ (r : State). r.objects) (sym e); memory = h.memory ∙ ap (λ (r : State). r.memory) (sym e) }
+stands_at o m s t e h = record { objects = h.objects ∙ ap (λ (r : State). r.objects) (sym e); memory = h.memory ∙ ap (λ (r : State). r.memory) (sym e); unlisted = h.unlisted }
 
 pub stands_none : (log : List Issued) (n : ℕ) (o : Objects) (m : Memory) → call_at log n ≡ None → Stands o m (before_call log n) → Stands o m (after_calls log n)
 stands_none log n o m none h = stands_at o m (before_call log n) (after_calls log n) (state_stays log n none) h
@@ -54,44 +56,29 @@ reply_refused log n i why there v =
 
 -- ---- an accepted call
 
-is_first : (o : Objects) (past : Past) (i : Issued) → is_wrong_at (place_of i.call) i.context ≡ true → verdict o past i ≡ Some WrongContext
-is_first o past i e =
-    ap (λ b. if b then Some WrongContext else first_failed (call_checks o past i.context i.call ++ (is_too_long o i.context (place_of i.call), TooMuchMemory) ∷ [])) e
-
-immediate : (a b : Bool) → not a && not b ≡ false → (b ≡ true → ⊥) → a ≡ true
-immediate true b e h = refl
-immediate false true e h = absurd (h refl)
-immediate false false e h = absurd cc
-
--- a call that is built and accepted is on the immediate context
-pub on_immediate : (s : State) (i : Issued) → is_unbuilt i ≡ false → None ≡ verdict_in s i → i.context ≡ 0
-on_immediate s i built v =
-    eqb-true i.context 0 (immediate (i.context == 0) (is_wrong_at (place_of i.call) i.context) built (λ e. refused (is_first s.objects s.past i e)))
-  where
-    refused : verdict_in s i ≡ Some WrongContext → ⊥
-    refused e = cc
-
 pub is_accepted : (s : State) (i : Issued) (o : Objects) (m : Memory) → Stands o m s → is_unbuilt i ≡ false → is_draw i.call ≡ false → None ≡ verdict_in s i → Accepted o i.call
 is_accepted s i o m h built no_draw v = record {
   built = ap not no_draw;
+  unlisted = h.unlisted;
   past = s.past;
   passes =
       ap (λ (p : Objects). verdict p s.past (record { context = 0; call = i.call })) h.objects
-      ∙ ap (λ (x : ℕ). verdict s.objects s.past (record { context = x; call = i.call })) (sym (on_immediate s i built v))
+      ∙ ap (λ (x : ℕ). verdict s.objects s.past (record { context = x; call = i.call })) (sym (on_immediate s.objects s.past i built v))
       ∙ sym v;
 }
 
-pub stands_accepted : (log : List Issued) (n : ℕ) (i : Issued) (o o' : Objects) (m m' : Memory) → call_at log n ≡ Some i → is_unbuilt i ≡ false → None ≡ verdict_in (before_call log n) i
+pub stands_accepted : (log : List Issued) (n : ℕ) (i : Issued) (o o' : Objects) (m m' : Memory) → call_at log n ≡ Some i → is_unbuilt i ≡ false → is_draw i.call ≡ false → None ≡ verdict_in (before_call log n) i
     → Stands o m (before_call log n) → o' ≡ objects_after n o 0 i.call → m' ≡ memory_after n o m 0 i.call → Stands o' m' (after_calls log n)
-stands_accepted log n i o o' m m' there built v h eo em =
+stands_accepted log n i o o' m m' there built no_draw v h eo em =
     let s = before_call log n in
-    let here = on_immediate s i built v in
+    let here = on_immediate s.objects s.past i built v in
     let after : after_calls log n ≡ accepted n s i.context i.call = step log n i there ∙ ap (unless_refused n s i) (sym v) in
     stands_at o' m' (accepted n s i.context i.call) (after_calls log n) after (record {
       objects = eo ∙ ap (λ (p : Objects). objects_after n p 0 i.call) h.objects ∙ ap (λ (x : ℕ). objects_after n s.objects x i.call) (sym here);
       memory =
           em ∙ ap (λ (p : Objects). memory_after n p m 0 i.call) h.objects ∙ ap (λ (k : Memory). memory_after n s.objects k 0 i.call) h.memory
           ∙ ap (λ (x : ℕ). memory_after n s.objects s.memory x i.call) (sym here);
+      unlisted = ap (λ (p : Objects). p.lists) eo ∙ stays_unlisted n o i.call (is_accepted s i o m h built no_draw v);
     })
 
 pub reply_accepted : (log : List Issued) (n : ℕ) (i : Issued) (o : Objects) (m : Memory) (r : Option Reply) → call_at log n ≡ Some i → None ≡ verdict_in (before_call log n) i

@@ -21,22 +21,24 @@ use d3d_state::{LiveShader, Objects, share};
 use dx_types::{CallNo, Refusal, Reply};
 use std::alloc::{AllocError, Global};
 
-/// The Direct3D state between two calls of a log: what is live and set, and the bytes.
+/// The Direct3D state between two calls of a log: what is live and set, and the bytes. No call is recorded yet, so nothing is
+/// lent from a log.
 #[derive(Drop)]
 pub struct Machine {
-    pub objects: Objects,
+    pub objects: Objects<'static>,
     pub memory: Memory,
 }
 
 impl Machine {
     /// Nothing is live.
-    pub fn new(alloc: Global) -> Machine
-        ensures { Stands (objects_of result.objects) result.memory initial }
+    pub fn new(alloc: Global) -> Result<Machine, AllocError>
+        ensures { IfOk result (λ m. Stands (objects_of m.objects) m.memory initial) }
     {
-        Machine {
-            objects: Objects::new(alloc),
+        let objects = Objects::new(alloc)?;
+        Ok(Machine {
+            objects,
             memory: Memory::new(alloc),
-        }
+        })
     }
 
     /// Plays call n of a log, which is refused for this reason, or accepted. `shader` is the shader that it creates, if it

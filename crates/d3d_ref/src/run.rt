@@ -52,7 +52,7 @@ fn play_all(alloc: Global, log: &Log<'_>, plan: &Plan) -> Result<Vec<Reply>, All
     requires playable { IsPlayable log.now.frames }
     ensures { IfOk result (λ said. said.items ≡ replies (calls_of log.now.frames) none_pending) }
 {
-    let mut machine = Machine::new(alloc);
+    let mut machine = Machine::new(alloc)?;
     let mut said = Vec::new(alloc);
     'calls: for i in 0..log.count() {
         let n = i + 1;

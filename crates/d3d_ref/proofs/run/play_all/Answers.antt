@@ -5,12 +5,13 @@ use Rattle.d3d_model.specs.ReplyText.{none_pending, reply_at, replies_upto}
 use Rattle.d3d_plan.specs.Planned.{Planned}
 use Rattle.d3d_plan.proofs.Entries.{length-plan_of}
 use Rattle.std.specs.Option.{option_copied}
-use Rattle.d3d_ref.proofs.Judgements.{created, judged, next_said}
+use Rattle.d3d_state.specs.Meaning.{objects_of}
+use Rattle.d3d_ref.proofs.Judgements.{created, judged, next_said, next_stands}
 use Rattle.d3d_ref.proofs.run.play_all.Goals as goal
 
 pub calls-init : goal.calls-init
 unfolding after_calls replies_upto
-calls-init c = record { stands = record { objects = c.new-machine.ensures.objects; memory = c.new-machine.ensures.memory }; said = c.new-said.ensures.items }
+calls-init c = record { stands = c.in_ok-machine.ensures; said = c.new-said.ensures.items }
 
 pub verdict-requires-clause-last : goal.verdict-requires-clause-last
 verdict-requires-clause-last c =
@@ -19,6 +20,10 @@ verdict-requires-clause-last c =
 pub shader-requires-clause-last : goal.shader-requires-clause-last
 shader-requires-clause-last c =
     omega (arith, ap (λ (l : List Planned). length l) c.requires.plan, length-plan_of (calls_of c.args.log.now.frames) (length c.args.log.now.frames), c.count-i-end.ensures.count, c.calls-test.true)
+
+pub play-requires-clause-stands : goal.play-requires-clause-stands
+play-requires-clause-stands c =
+    next_stands (calls_of c.args.log.now.frames) c.calls.i (objects_of c.calls.machine.objects) c.calls.machine.memory c.calls.invariant.stands
 
 pub play-requires-clause-shader : goal.play-requires-clause-shader
 play-requires-clause-shader c =

@@ -57,7 +57,7 @@ returns-in_ok-reply-in-None-refusal-clause-stands c =
     let i : Issued = record { context = f.context; call = call_view c.call.result } in
     let there = call_some c.args.log.now.frames c.args.n f (call_view c.call.result) c.in-Some.ensures.record c.call.ensures in
     steps.stands_accepted (calls_of c.args.log.now.frames) c.args.n i (objects_of c.args.self.now.objects) (objects_of c.execute.new.self.objects) c.args.self.now.memory c.execute.new.self.memory there
-    (c.requires.judged.built i there) (sym c.in-None-refusal.is ∙ c.requires.judged.verdict i there) c.requires.stands
+    (c.requires.judged.built i there) (c.requires.judged.no_draw i there) (sym c.in-None-refusal.is ∙ c.requires.judged.verdict i there) c.requires.stands
     c.in_ok-reply-in-None-refusal.ensures.objects c.in_ok-reply-in-None-refusal.ensures.memory
 
 pub execute-requires-clause-limits : goal.execute-requires-clause-limits
