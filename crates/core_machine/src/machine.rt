@@ -45,11 +45,12 @@ impl<'a> Core<'a> {
         requires { IsPlanned log.now.frames plan.now }
         ensures { IfOk result (λ core. core ≡ start (calls_of log.entry.now.frames)) }
     {
+        let machine = Machine::new(alloc)?;
         Ok(Core {
             alloc,
             log,
             plan,
-            machine: Some(Machine::new(alloc)),
+            machine: Some(machine),
             taken: 0,
             flight: Flight::Empty,
             ended: false,
