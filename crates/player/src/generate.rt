@@ -97,7 +97,7 @@ fn last_reply(alloc: Global, log: &Log<'_>, plan: &Plan) -> Result<Option<Reply>
     requires { IsPlanned log.now.frames plan.now }
     ensures { IfOk result (λ reply. reply ≡ last_reply (calls_of log.now.frames)) }
 {
-    let mut machine = Machine::new(alloc);
+    let mut machine = Machine::new(alloc)?;
     let mut last = None;
     'calls: for i in 0..log.count() {
         let n = i + 1;

@@ -5,16 +5,16 @@ use Rattle.call_log.specs.Grammar.{issued, calls_of}
 use Rattle.d3d_model.specs.InOrder.{after_calls}
 use Rattle.d3d_model.specs.ReplyText.{none_pending, reply_at}
 use Rattle.d3d_plan.specs.Planned.{Planned}
+use Rattle.d3d_state.specs.Meaning.{objects_of}
 use Rattle.d3d_plan.proofs.Entries.{length-plan_of}
-use Rattle.d3d_ref.proofs.Judgements.{created, judged}
+use Rattle.d3d_ref.proofs.Judgements.{created, judged, next_stands}
 use Rattle.player.proofs.generate.last_reply.Goals as goal
 
 pub calls-init : goal.calls-init
 unfolding after_calls
 calls-init c =
     record {
-      stands = record
-          { objects = c.new-machine.ensures.objects; memory = c.new-machine.ensures.memory };
+      stands = c.in_ok-machine.ensures;
       said = refl;
     }
 
@@ -37,6 +37,11 @@ shader-requires-clause-last c =
       c.count-i-end.ensures.count,
       c.calls-test.true,
     )
+
+pub play-requires-clause-stands : goal.play-requires-clause-stands
+play-requires-clause-stands c =
+    next_stands (calls_of c.args.log.now.frames) c.calls.i (objects_of c.calls.machine.objects) c.calls.machine.memory
+    c.calls.invariant.stands
 
 pub play-requires-clause-judged : goal.play-requires-clause-judged
 play-requires-clause-judged c =
