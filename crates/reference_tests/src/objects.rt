@@ -1,7 +1,7 @@
 //! What the calls of a log make live and set, with no checks but those that the objects' own functions ask for.
 
 use call_log::Call;
-use d3d_state::{LiveShader, Objects, Query, Sort};
+use d3d_state::{LiveShader, Objects, Query, Setting, Sort};
 use d3d_views::Predicate;
 use dx_types::{CallNo, Form, Shape, Usage, ViewShape};
 use std::alloc::{AllocError, Global};
@@ -9,7 +9,7 @@ use std::alloc::{AllocError, Global};
 /// The objects after call n, of those that the logs here have.
 pub(crate) fn set(
     alloc: Global,
-    objects: &mut Objects,
+    objects: &mut Objects<'_>,
     n: CallNo,
     call: &Call<'_>,
 ) -> Result<(), AllocError> {
@@ -65,7 +65,7 @@ fn sort_of(number: u32) -> Sort {
     }
 }
 
-fn create_buffer(objects: &mut Objects, id: u32, shape: Shape) -> Result<(), AllocError> {
+fn create_buffer(objects: &mut Objects<'_>, id: u32, shape: Shape) -> Result<(), AllocError> {
     if objects.buffer_refusal(id, &shape).is_none() {
         objects.create_buffer(id, shape)?;
     }
@@ -73,7 +73,7 @@ fn create_buffer(objects: &mut Objects, id: u32, shape: Shape) -> Result<(), All
 }
 
 // A view of the first word of a buffer, raw or typed.
-fn create_view(objects: &mut Objects, id: u32, res: u32, form: u32) -> Result<(), AllocError> {
+fn create_view(objects: &mut Objects<'_>, id: u32, res: u32, form: u32) -> Result<(), AllocError> {
     if objects.view(id).is_none() {
         let shape = ViewShape {
             res,
@@ -90,7 +90,7 @@ fn create_view(objects: &mut Objects, id: u32, res: u32, form: u32) -> Result<()
 
 fn create_shader(
     alloc: Global,
-    objects: &mut Objects,
+    objects: &mut Objects<'_>,
     n: CallNo,
     id: u32,
     words: &[u8],
@@ -101,7 +101,7 @@ fn create_shader(
     Ok(())
 }
 
-fn set_on_context(objects: &mut Objects, n: CallNo, call: &Call<'_>) {
+fn set_on_context(objects: &mut Objects<'_>, n: CallNo, call: &Call<'_>) {
     match call {
         Call::SetPredication {
             kind,
@@ -111,28 +111,38 @@ fn set_on_context(objects: &mut Objects, n: CallNo, call: &Call<'_>) {
         } => set_predicate(objects, *kind, *id, *offset, *value),
         Call::Begin { query } => objects.begin(*query),
         Call::EndQuery { query } => objects.end(*query, n),
-        Call::SetShader { id } => objects.set_shader(*id),
+        Call::SetShader { id } => objects.set(0, Setting::Shader(*id)),
         _ => set_slot(objects, call),
     }
 }
 
-fn set_predicate(objects: &mut Objects, kind: u32, id: u32, offset: u32, value: u32) {
-    match kind {
-        0 => objects.set_predicate(Predicate::Never),
-        1 => objects.set_predicate(Predicate::Query { id, value }),
-        _ => objects.set_predicate(Predicate::Word {
+fn set_predicate(objects: &mut Objects<'_>, kind: u32, id: u32, offset: u32, value: u32) {
+    let predicate = match kind {
+        0 => Predicate::Never,
+        1 => Predicate::Query { id, value },
+        _ => Predicate::Word {
             res: id,
             offset: u64::from(offset),
             value,
-        }),
-    }
+        },
+    };
+    objects.set(0, Setting::Predicate(predicate));
 }
 
-fn set_slot(objects: &mut Objects, call: &Call<'_>) {
+fn set_slot(objects: &mut Objects<'_>, call: &Call<'_>) {
     match call {
-        Call::SetConstant { slot, res } if *slot < 14 => objects.set_constant(*slot, *res),
-        Call::SetSrv { slot, view } if *slot < 16 => objects.set_srv(*slot, *view),
-        Call::SetUav { slot, view } if *slot < 8 => objects.set_uav(*slot, *view),
+        Call::SetConstant { slot, res } if *slot < 14 => {
+            let (slot, res) = (*slot, *res);
+            objects.set(0, Setting::Constant { slot, res });
+        }
+        Call::SetSrv { slot, view } if *slot < 16 => {
+            let view = objects.bound_view(*view);
+            objects.set(0, Setting::Srv { slot: *slot, view });
+        }
+        Call::SetUav { slot, view } if *slot < 8 => {
+            let view = objects.bound_view(*view);
+            objects.set(0, Setting::Uav { slot: *slot, view });
+        }
         _ => (),
     }
 }

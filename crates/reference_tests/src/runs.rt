@@ -79,7 +79,7 @@ fn accepted(
 fn unchecked(alloc: Global, lines: &[&str]) -> Result<Vec<Reply>, Fail> {
     let bytes = log_of(alloc, lines)?;
     let log = opened(alloc, &bytes)?;
-    let mut machine = Machine::new(alloc);
+    let mut machine = Machine::new(alloc)?;
     let mut replies = Vec::new(alloc);
     for n in 1..=log.count() {
         let item = log.item(n).ok_or("no call")?;
