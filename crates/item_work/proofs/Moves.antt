@@ -14,7 +14,6 @@ use Rattle.vk_types.specs.declared.command.SlotRange.{SlotRange}
 use Rattle.vk_types.specs.declared.command.Groups.{Groups}
 use Rattle.vk_types.specs.declared.command.Work.{Work}
 use Rattle.vk_types.specs.declared.command.Work.TheVariants as work
-use Rattle.vk_types.specs.declared.command.Cond.{Cond}
 use Rattle.vk_types.specs.Memory.{range, or_zero}
 use Rattle.d3d_model.specs.Past.{Past}
 use Rattle.d3d_model.specs.View.{view_range}
@@ -23,10 +22,10 @@ use Rattle.d3d_model.specs.D3dState.{Objects, words_set}
 use Rattle.d3d_model.specs.Shader.{declared_by}
 use Rattle.d3d_model.specs.Memory.{constants_shown, srvs_shown, uavs_shown}
 use Rattle.core_model.specs.Renaming.{BlockMap, range_on, slot_on, groups_on, work_on, cond_on}
-use Rattle.log_script.specs.Makers.{maker, of_maker}
+use Rattle.log_script.specs.Makers.{of_maker}
 use Rattle.log_script.specs.Plays.{condition, slots_from, slots_listed, creator, clear, clear_words, dispatch}
 use Rattle.item_work.specs.Placed.{IdBlocks, NamesBlocks, range_at}
-use Rattle.item_work.specs.Slots.{slot_if, slots_on, slots_seen}
+use Rattle.item_work.specs.Slots.{slots_on, slots_seen}
 
 module _ (past : Past) (named : IdBlocks) (of : BlockMap) (names : NamesBlocks past named of) where
   pub range_moves : (r : ResRange) → range_at named r ≡ range_on of (of_maker past r)

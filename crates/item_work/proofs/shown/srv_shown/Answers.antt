@@ -1,4 +1,4 @@
-use Rattle.std.proofs.Common.{◌<◌, length, get_or, Option, None, sym, ap, ◌∙◌, arith}
+use Rattle.std.proofs.Common.{◌<◌, length, Option, None, sym, ap, ◌∙◌, arith}
 use Rattle.std.specs.List.{find}
 use Rattle.shader_model.specs.declared.tree.Declared.{Declared}
 use Rattle.d3d_model.specs.Binding.{BoundView}
