@@ -1,2 +1,4 @@
 pub mod Rising
-pub mod Sums
+pub mod Counting
+pub mod Climbing
+pub mod Placing

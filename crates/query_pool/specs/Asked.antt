@@ -1,24 +1,22 @@
 -- Which queries are kept, and what each counts.
-use Rattle.std.specs.Prelude.{◌≡◌, ℕ, ◌+◌, ◌≤◌, nat_le, nat_lt, ◌==◌, ◌&&◌, List, [], ◌∷◌, ◌++◌, Option, Some, if◌then◌else◌, position, sum_by, slice_index_or, unwrap_or, MatchBool}
+use Rattle.std.specs.Prelude.{◌≡◌, ℕ, ◌+◌, ◌≤◌, nat_le, nat_lt, ◌&&◌, List, [], ◌∷◌, ◌++◌, Option, Some, if◌then◌else◌, sum_by, unwrap_or, MatchBool}
 use Rattle.std.specs.BTreeMap.{insert_entry, is_at}
-use Rattle.std.specs.Map.{lookup}
+use Rattle.std.specs.Map.{lookup, remove_entry}
 use Rattle.std.specs.Ordering.{nat_cmp}
-use Rattle.std.specs.List.{remove}
 use Rattle.vk_types.specs.declared.message.QueryMark.{QueryMark}
 use Rattle.vk_types.specs.declared.message.QueryValue.{QueryValue}
-use Rattle.query_pool.specs.declared.queries.Begun.{Begun}
 use Rattle.query_pool.specs.declared.queries.Ended.{Ended}
 
--- the queries that are begun, those that are ended and not answered, in the order of their Ends, and how many invocations were
--- counted of each command, by rising command
+-- the queries that are begun, each with the first command that it counts, by rising query, those that are ended and not answered,
+-- in the order of their Ends, and how many invocations were counted of each command, by rising command
 pub record Asked : Type 0 where
-  pub begun : List Begun
+  pub begun : List (ℕ × ℕ)
   pub ended : List Ended
   pub counts : List (ℕ × ℕ)
 
--- where this query stands among those that are begun
-abbrev pub place_of : ℕ → List Begun → Option ℕ
-place_of query begun = position (λ (b : Begun). b.query == query) begun
+-- the first command that this query counts, if it is begun
+abbrev pub begun_at : ℕ → List (ℕ × ℕ) → Option ℕ
+begun_at query begun = lookup (is_at (nat_cmp query)) begun
 
 -- the invocations of a command whose number is from `from` on and below `to`, else 0
 abbrev pub part_between : ℕ → ℕ → ℕ × ℕ → ℕ
@@ -42,15 +40,15 @@ counted_more counts command invocations = insert_entry nat_cmp counts command (c
 
 -- the query is begun
 abbrev pub begins : QueryMark → Asked → Asked
-begins m old = record old { begun = old.begun ++ record { query = m.query; before = m.before } ∷ [] }
+begins m old = record old { begun = insert_entry nat_cmp old.begun m.query m.before }
 
 -- the query was begun, and is ended
 pub record Ends (m : QueryMark) (old new : Asked) : Type 0 where
-  pub at : ℕ
-  pub is_at : place_of m.query old.begun ≡ Some at
-  pub begun : Begun
-  pub is_begun : begun ≡ slice_index_or old.begun at begun
-  pub now : new ≡ record { begun = remove old.begun at; ended = old.ended ++ record { call = m.call; query = m.query; from = begun.before; to = m.before } ∷ []; counts = old.counts }
+  pub from : ℕ
+  pub is_begun : begun_at m.query old.begun ≡ Some from
+  pub begun : new.begun ≡ remove_entry (is_at (nat_cmp m.query)) old.begun
+  pub ended : new.ended ≡ old.ended ++ record { call = m.call; query = m.query; from = from; to = m.before } ∷ []
+  pub counts : new.counts ≡ old.counts
 
 abbrev pub Marks : QueryMark → Asked → Asked → Type 0
 Marks m old new = MatchBool m.begins (new ≡ begins m old) (Ends m old new)

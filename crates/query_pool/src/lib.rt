@@ -2,5 +2,7 @@
 #![tactic(auto)]
 
 mod queries;
+mod sums;
 
-pub use queries::{Begun, Ended, Queries};
+pub use queries::{Ended, Queries};
+pub use sums::Sum;

@@ -1,21 +1,13 @@
-ghost use Rattle.std.specs.Prelude.{◌≡◌, ℕ, ◌+◌, ◌<◌, ◌≤◌, ◌^◌, [], ◌↔◌, All, IsTrue, None, OnOk, OnErr, MatchOption, sum_by};
-ghost use Rattle.std.specs.BTreeMap.Range.{entries_between};
-ghost use Rattle.std.specs.Ordering.{nat_cmp};
-ghost use Rattle.std.specs.declared.ops.Bound.TheVariants.{Included, Excluded};
-ghost use Rattle.query_pool.specs.Asked.{Marks, Answered, counted_more, invocations_between, invocations_of, part_between, place_of};
+ghost use Rattle.std.specs.Prelude.{◌≡◌, ℕ, ◌+◌, ◌<◌, ◌≤◌, ◌^◌, [], ◌↔◌, All, IsTrue, None, OnOk, OnErr, MatchOption};
+ghost use Rattle.query_pool.specs.Asked.{Marks, Answered, begun_at, counted_more, invocations_between, invocations_of, part_between};
+ghost use Rattle.query_pool.specs.Running.{Climbs, counts_from};
 
+use crate::sums::{Sum, below, place, raise_from, sum_below};
 use dx_types::CallNo;
 use std::alloc::{AllocError, Global};
 use std::collections::{BTreeMap, VecDeque};
 use std::marker::Model;
 use vk_types::{QueryMark, QueryValue};
-
-/// A query that is begun: it counts the commands from number `before` on.
-#[derive(Clone, Copy, Debug)]
-pub struct Begun {
-    pub query: u32,
-    pub before: u64,
-}
 
 /// A query that call `call` ended: it counts the commands from number `from` up to the one before `to`.
 #[derive(Clone, Copy, Debug)]
@@ -26,13 +18,13 @@ pub struct Ended {
     pub to: u64,
 }
 
-/// The queries that are begun, those that are ended and not answered, in order, and how many invocations each command ran that
-/// was counted, with their total: an answer adds up the commands between its marks alone.
+/// The queries that are begun, each with the first command that it counts, those that are ended and not answered, in order, and
+/// running sums of the invocations that commands ran, with their total: what lies between two marks is a difference of two sums.
 #[derive(Drop)]
 pub struct Queries {
-    begun: Vec<Begun>,
+    begun: BTreeMap<u32, u64>,
     ended: VecDeque<Ended>,
-    ran: BTreeMap<u64, u64>,
+    sums: Vec<Sum>,
     total: u64,
 }
 
@@ -40,12 +32,13 @@ impl Model for Queries {
     ghost use Rattle.std.specs.Prelude.{◌≡◌, ◌<◌, ◌^◌};
     ghost use Rattle.query_pool.specs.Asked.{Asked, invocations_of};
     ghost use Rattle.query_pool.specs.Rising.{RisesBy};
+    ghost use Rattle.query_pool.specs.Running.{Climbs, counts_from};
 
     ghost Value = { Asked };
 
-    ghost view = { λ q. record { begun = q.begun.items; ended = q.ended.items; counts = q.ran.entries } };
+    ghost view = { λ q. record { begun = q.begun.entries; ended = q.ended.items; counts = counts_from 0 q.sums.items } };
 
-    ghost invariant = { λ q. RisesBy (λ e. e.call) q.ended.items × (invocations_of q.ran.entries < 2 ^ 63) × (q.total ≡ invocations_of q.ran.entries) };
+    ghost invariant = { λ q. RisesBy (λ e. e.call) q.ended.items × Climbs 0 0 q.sums.items × (invocations_of (counts_from 0 q.sums.items) < 2 ^ 63) × (q.total ≡ invocations_of (counts_from 0 q.sums.items)) };
 }
 
 impl Queries {
@@ -54,9 +47,9 @@ impl Queries {
         ensures { result ≡ record { begun = []; ended = []; counts = [] } }
     {
         Queries {
-            begun: Vec::new(alloc),
+            begun: BTreeMap::new(alloc),
             ended: VecDeque::new(alloc),
-            ran: BTreeMap::new(alloc),
+            sums: Vec::new(alloc),
             total: 0,
         }
     }
@@ -71,33 +64,30 @@ impl Queries {
     /// Begins or ends a query. The marks of one query are a Begin and an End in turn, and the calls of Ends never
     /// fall. A lack of memory changes nothing.
     pub fn mark(&mut self, m: QueryMark) -> Result<(), AllocError>
-        requires turn { IsTrue m.begins ↔ (place_of m.query self.old.begun ≡ None) }
+        requires turn { IsTrue m.begins ↔ (begun_at m.query self.old.begun ≡ None) }
         requires order { All (λ e. e.call ≤ m.call) self.old.ended }
         ensures ok { OnOk result (Marks m self.old self.new) }
         ensures err { OnErr result (self.new ≡ self.old) }
     {
         if m.begins {
-            self.begun.push(Begun {
-                query: m.query,
-                before: m.before,
-            })?;
+            self.begun.insert(m.query, m.before)?;
             return Ok(());
         }
-        let Some(at) = find_begun(&self.begun, m.query) else {
+        let Some(from) = self.begun.get(&m.query).copied() else {
             unreachable!()
         };
         self.ended.push_back(Ended {
             call: m.call,
             query: m.query,
-            from: self.begun[at].before,
+            from,
             to: m.before,
         })?;
-        self.begun.remove(at);
+        self.begun.remove(&m.query);
         Ok(())
     }
 
     /// Notes that a command ran so many invocations more. All counts together stay below 2^63. A lack of memory changes
-    /// nothing.
+    /// nothing. It takes the commands of greater numbers that were counted before it.
     pub fn count(&mut self, command: u64, invocations: u64) -> Result<(), AllocError>
         requires { invocations_of self.old.counts + invocations < 2 ^ 63 }
         ensures ok { OnOk result (self.new ≡ record self.old { counts = counted_more self.old.counts command invocations }) }
@@ -106,15 +96,16 @@ impl Queries {
         ensures all { OnOk result (invocations_of self.new.counts ≡ invocations_of self.old.counts + invocations) }
         ensures err { OnErr result (self.new ≡ self.old) }
     {
-        let before = self.ran.get(&command).copied().unwrap_or(0);
-        self.ran.insert(command, before + invocations)?;
+        let at = below(&self.sums, command);
+        place(&mut self.sums, at, command)?;
+        raise_from(&mut self.sums, at, invocations);
         self.total += invocations;
         Ok(())
     }
 
     /// The value of the query that was ended first, which goes, where its End is a call of at most `upto`. Else no
     /// ended query has an End of at most `upto`. The value is right once all dispatches before the End were counted. It
-    /// takes the logarithm of all commands, and the commands between the two marks.
+    /// takes the logarithm of all commands.
     pub fn answer(&mut self, upto: CallNo) -> Option<QueryValue>
         ensures { MatchOption result
             ((self.new ≡ self.old) × All (λ e. upto < e.call) self.old.ended)
@@ -127,33 +118,15 @@ impl Queries {
         Some(QueryValue {
             call: ended.call,
             query: ended.query,
-            value: counted_between(&self.ran, ended.from, ended.to),
+            value: counted_between(&self.sums, ended.from, ended.to),
         })
     }
 }
 
-fn find_begun(begun: &[Begun], query: u32) -> Option<usize>
-    ensures { result ≡ place_of query begun.now }
+fn counted_between(sums: &[Sum], from: u64, to: u64) -> u64
+    requires { Climbs 0 0 sums.now }
+    ensures { result ≡ invocations_between from to (counts_from 0 sums.now) }
 {
-    begun.iter().position(|b| b.query == query)
-}
-
-fn counted_between(ran: &BTreeMap<u64, u64>, from: u64, to: u64) -> u64
-    requires { invocations_of ran.now.entries < 2 ^ 63 }
-    ensures { result ≡ invocations_between from to ran.now.entries }
-{
-    if to <= from {
-        return 0;
-    }
-    ran_between(ran, from, to)
-}
-
-fn ran_between(ran: &BTreeMap<u64, u64>, from: u64, to: u64) -> u64
-    requires forward { from ≤ to }
-    requires fits { invocations_of ran.now.entries < 2 ^ 63 }
-    ensures { result ≡ sum_by (λ e. e.1) (entries_between nat_cmp (Included from) (Excluded to) ran.now.entries) }
-{
-    ran.range(from..to)
-        .map(|(_, invocations)| *invocations)
-        .sum()
+    let upto = sum_below(sums, to);
+    upto.saturating_sub(sum_below(sums, from))
 }

@@ -8,7 +8,7 @@ use Rattle.buffer_blocks.specs.declared.block.Block.{Block}
 use Rattle.buffer_blocks.specs.Block.{bytes_of, with_bytes}
 use Rattle.call_log.specs.Grammar.{part_of}
 use Rattle.lifetime.specs.declared.holds.Mark.{Mark}
-use Rattle.query_pool.specs.Asked.{Asked, Marks, place_of}
+use Rattle.query_pool.specs.Asked.{Asked, Marks, begun_at}
 use Rattle.vk_types.specs.declared.message.Batch.{Batch}
 use Rattle.vk_types.specs.declared.message.HostPart.{HostPart}
 use Rattle.vk_types.specs.declared.message.QueryMark.{QueryMark}
@@ -74,6 +74,11 @@ abbrev pub written : List ℕ → List HostPart → Memory → Memory
 written log [] m = m
 written log (h ∷ hs) m = written log hs (put h.range (number_at (or_empty (part_of log h.span.start h.span.len))) m)
 
+-- how long a block is, if there is one
+abbrev pub length_if : Option Block → Option ℕ
+length_if None = None
+length_if (Some b) = Some (length (bytes_of b))
+
 -- the batch has the next number, no two of its blocks and pages have one number, and each part that the host writes for it is in
 -- the log, and goes to a block that is held then
 pub record IsNext (log : List ℕ) (b : Batch) (d : State) : Type 0 where
@@ -92,7 +97,7 @@ MarksAll (m ∷ ms) old new = (next : Asked) × Marks m old next × MarksAll ms 
 abbrev pub CanMark : List QueryMark → Asked → Type 0
 CanMark [] q = Unit {0}
 CanMark (m ∷ ms) q =
-    (IsTrue m.begins ↔ (place_of m.query q.begun ≡ None)) × All (λ e. e.call ≤ m.call) q.ended × ((next : Asked) → Marks m q next → CanMark ms next)
+    (IsTrue m.begins ↔ (begun_at m.query q.begun ≡ None)) × All (λ e. e.call ≤ m.call) q.ended × ((next : Asked) → Marks m q next → CanMark ms next)
 
 -- A batch --------------------------------------------------------------------------------------------------------------------
 

@@ -1,7 +1,5 @@
 -- Sums over commands, as one more is counted.
-use Rattle.std.proofs.Common.{◌≡◌, ℕ, ◌+◌, ◌<◌, ◌≤◌, inl, inr, Bool, true, false, cond, nat_le, nat_lt, ◌&&◌, List, [], ◌∷◌, Some, refl, sym, ap, ◌∙◌, sum_by, arith}
-use Rattle.std.specs.BTreeMap.Range.{entries_between, range_contains}
-use Rattle.std.specs.declared.ops.Bound.TheVariants.{Included, Excluded}
+use Rattle.std.proofs.Common.{◌≡◌, ℕ, ◌+◌, ◌<◌, inl, inr, Bool, true, false, cond, nat_le, nat_lt, ◌&&◌, List, [], ◌∷◌, Some, refl, sym, ap, ◌∙◌, sum_by, arith}
 use Rattle.std.specs.List.Sorted.{IsStrictlySortedBy}
 use Rattle.std.specs.Map.{keys_of, lookup}
 use Rattle.std.specs.Option.{unwrap_or}
@@ -85,41 +83,3 @@ pub all_more : (es : List (ℕ × ℕ)) (k n : ℕ) → IsStrictlySortedBy nat_c
 all_more es k n sorted =
     let put = put_sum (λ (e : ℕ × ℕ). e.1) (λ k. refl) es k (counted_of k es + n) sorted in
     omega (arith, put)
-
--- what a command ran is at most what all ran
-pub before_le : (es : List (ℕ × ℕ)) (k : ℕ) → counted_of k es ≤ sum_by (λ (e : ℕ × ℕ). e.1) es
-before_le [] k = omega arith
-before_le (e ∷ es) k =
-    let old = sum_by-cons (λ (e : ℕ × ℕ). e.1) e es in
-    let rest = before_le es k in
-    by (is_at (nat_cmp k) e.0) old rest
-  where
-    by : (b : Bool) → sum_by (λ (e : ℕ × ℕ). e.1) (e ∷ es) ≡ e.1 + sum_by (λ (e : ℕ × ℕ). e.1) es → counted_of k es ≤ sum_by (λ (e : ℕ × ℕ). e.1) es → unwrap_or (cond b (Some e.1) (lookup (is_at (nat_cmp k)) es)) 0 ≤ sum_by (λ (e : ℕ × ℕ). e.1) (e ∷ es)
-    by true old rest = omega arith
-    by false old rest = omega arith
-
--- the sum over the entries between two numbers
-pub between_is : (from to : ℕ) (es : List (ℕ × ℕ)) → sum_by (λ (e : ℕ × ℕ). e.1) (entries_between nat_cmp (Included from) (Excluded to) es) ≡ invocations_between from to es
-between_is from to [] = refl
-between_is from to (e ∷ es) =
-    by (range_contains nat_cmp (Included from) (Excluded to) e.0) (nat_le from e.0 && nat_lt e.0 to) alike (between_is from to es) ∙ sym (sum_by-cons (part_between from to) e es)
-  where
-    alike : range_contains nat_cmp (Included from) (Excluded to) e.0 ≡ (nat_le from e.0 && nat_lt e.0 to)
-    alike = grind (arith, nat_tests)
-
-    by : (b c : Bool) → b ≡ c → sum_by (λ (e : ℕ × ℕ). e.1) (entries_between nat_cmp (Included from) (Excluded to) es) ≡ invocations_between from to es
-        → sum_by (λ (e : ℕ × ℕ). e.1) (cond b (e ∷ entries_between nat_cmp (Included from) (Excluded to) es) (entries_between nat_cmp (Included from) (Excluded to) es)) ≡ cond c e.1 0 + invocations_between from to es
-    by true true same rest = sum_by-cons (λ (e : ℕ × ℕ). e.1) e (entries_between nat_cmp (Included from) (Excluded to) es) ∙ ap (λ n. e.1 + n) rest
-    by true false same rest = absurd (cc same)
-    by false true same rest = absurd (cc same)
-    by false false same rest = omega (arith, rest)
-
--- where no number lies between, none ran
-pub within_none : (from to : ℕ) (es : List (ℕ × ℕ)) → to ≤ from → invocations_between from to es ≡ 0
-within_none from to [] le = refl
-within_none from to (e ∷ es) le =
-    let out : (nat_le from e.0 && nat_lt e.0 to) ≡ false = grind (arith, nat_tests) in
-    let head : part_between from to e ≡ 0 = cond-false (nat_le from e.0 && nat_lt e.0 to) e.1 0 out in
-    let all = sum_by-cons (part_between from to) e es in
-    let rest = within_none from to es le in
-    omega (arith, head, all, rest)
