@@ -1,0 +1,9 @@
+pub mod Due
+pub mod Flight
+pub mod Listing
+pub mod Tables
+pub mod ClassBlocks
+pub mod Staging
+pub mod OpenChunk
+pub mod AppState
+pub mod Stands
