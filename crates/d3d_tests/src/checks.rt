@@ -10,7 +10,7 @@ use crate::live::{add_buffer, add_shader, add_view, set_srv};
 use crate::same::same;
 use call_log::Call;
 use d3d_checks::{decode_created, verdict};
-use d3d_state::{Objects, Query, Sort};
+use d3d_state::{Objects, Query, Setting, Sort};
 use d3d_uses::Uses;
 use dx_types::{Refusal, ResRange, Shape, Usage};
 use std::alloc::Global;
@@ -117,32 +117,45 @@ fn call_of(ask: &Ask) -> Call<'static> {
     }
 }
 
-// Why call 12 of the immediate context is refused. Of a draw nothing may be asked.
+// Why call 12 of a context is refused.
 fn why(
     alloc: Global,
-    objects: &Objects,
+    objects: &Objects<'_>,
     uses: &Uses,
+    context: u16,
     call: &Call<'_>,
 ) -> Result<Option<Refusal>, Fail> {
-    if matches!(call, Call::Draw { .. }) {
-        return Err(Fail::from("a draw"));
-    }
     let shader = decode_created(alloc, 12, call)?;
-    Ok(verdict(objects, uses, 0, call, shader.is_some()))
+    Ok(verdict(objects, uses, context, call, shader.is_some()))
+}
+
+fn expect_on(
+    rt: &impl Abort,
+    alloc: Global,
+    objects: &Objects<'_>,
+    uses: &Uses,
+    context: u16,
+    rows: &[Row],
+) -> Result<(), Fail> {
+    for (ask, want) in rows {
+        let call = call_of(ask);
+        assert_eq!(rt;
+            why(alloc, objects, uses, context, &call)?,
+            *want,
+            "{call:?}"
+        );
+    }
+    Ok(())
 }
 
 fn expect(
     rt: &impl Abort,
     alloc: Global,
-    objects: &Objects,
+    objects: &Objects<'_>,
     uses: &Uses,
     rows: &[Row],
 ) -> Result<(), Fail> {
-    for (ask, want) in rows {
-        let call = call_of(ask);
-        assert_eq!(rt; why(alloc, objects, uses, &call)?, *want, "{call:?}");
-    }
-    Ok(())
+    expect_on(rt, alloc, objects, uses, 0, rows)
 }
 
 // A live buffer: its id, size, usage, bind bits and misc bits.
@@ -166,7 +179,7 @@ fn added(went: bool) -> Result<(), Fail> {
     }
 }
 
-fn add(objects: &mut Objects, buffer: &Buffer) -> Result<(), Fail> {
+fn add(objects: &mut Objects<'_>, buffer: &Buffer) -> Result<(), Fail> {
     let Buffer(id, size, usage, bind, misc) = *buffer;
     let shape = Shape {
         size,
@@ -179,7 +192,7 @@ fn add(objects: &mut Objects, buffer: &Buffer) -> Result<(), Fail> {
 }
 
 // View 1 of buffer 1 is for reads, and view 2 for writes.
-fn add_views(objects: &mut Objects) -> Result<(), Fail> {
+fn add_views(objects: &mut Objects<'_>) -> Result<(), Fail> {
     for (id, writable) in [(1, false), (2, true)] {
         added(add_view(objects, id, 1, writable)?)?;
     }
@@ -187,7 +200,7 @@ fn add_views(objects: &mut Objects) -> Result<(), Fail> {
 }
 
 // Only query 3 has a result, and query 2 is an event.
-fn add_queries(objects: &mut Objects) -> Result<(), Fail> {
+fn add_queries(objects: &mut Objects<'_>) -> Result<(), Fail> {
     for (id, sort) in [
         (1, Sort::OcclusionPredicate),
         (2, Sort::Event),
@@ -200,8 +213,8 @@ fn add_queries(objects: &mut Objects) -> Result<(), Fail> {
     Ok(())
 }
 
-fn live_objects(alloc: Global) -> Result<Objects, Fail> {
-    let mut objects = Objects::new(alloc);
+fn live_objects(alloc: Global) -> Result<Objects<'static>, Fail> {
+    let mut objects = Objects::new(alloc)?;
     for buffer in &BUFFERS {
         add(&mut objects, buffer)?;
     }
@@ -211,7 +224,7 @@ fn live_objects(alloc: Global) -> Result<Objects, Fail> {
 }
 
 // The rows where no call binds anything.
-fn play(rt: &impl Abort, alloc: Global, objects: &Objects, rows: &[Row]) -> Result<(), Fail> {
+fn play(rt: &impl Abort, alloc: Global, objects: &Objects<'_>, rows: &[Row]) -> Result<(), Fail> {
     expect(rt, alloc, objects, &Uses::new(alloc), rows)
 }
 
@@ -252,7 +265,7 @@ fn settings(rt: HostRuntime) -> Result<(), Fail> {
 }
 
 // Why a flush is refused that stands on the first context that there isn't.
-fn flush_refusal(alloc: Global, objects: &Objects) -> Option<Refusal> {
+fn flush_refusal(alloc: Global, objects: &Objects<'_>) -> Option<Refusal> {
     verdict(objects, &Uses::new(alloc), 17, &Call::Flush, false)
 }
 
@@ -269,8 +282,8 @@ fn resources(rt: HostRuntime) -> Result<(), Fail> {
 }
 
 // Shaders 1 and 65,535 are live, and buffer 6 has the counts of two indirect dispatches.
-fn live_shaders(alloc: Global) -> Result<Objects, Fail> {
-    let mut objects = Objects::new(alloc);
+fn live_shaders(alloc: Global) -> Result<Objects<'static>, Fail> {
+    let mut objects = Objects::new(alloc)?;
     add(&mut objects, &Buffer(6, 24, Usage::Default, 0, 4))?;
     for id in [1, 65_535] {
         add_shader(alloc, &mut objects, id, 9, shading::GOOD)?;
@@ -282,10 +295,10 @@ fn live_shaders(alloc: Global) -> Result<Objects, Fail> {
 #[test]
 fn shaders(rt: HostRuntime) -> Result<(), Fail> {
     let mut objects = live_shaders(rt.alloc())?;
-    objects.set_shader(1);
+    objects.set(0, Setting::Shader(1));
     play(&rt, rt.alloc(), &objects, &shading::CREATIONS)?;
     play(&rt, rt.alloc(), &objects, &shading::ONCE_SET)?;
-    objects.clear_state();
+    objects.set(0, Setting::Default);
     play(&rt, rt.alloc(), &objects, &shading::ONCE_CLEARED)
 }
 
@@ -294,6 +307,6 @@ fn shaders(rt: HostRuntime) -> Result<(), Fail> {
 fn dispatches(rt: HostRuntime) -> Result<(), Fail> {
     let mut objects = live_shaders(rt.alloc())?;
     play(&rt, rt.alloc(), &objects, &shading::WITHOUT)?;
-    objects.set_shader(1);
+    objects.set(0, Setting::Shader(1));
     play(&rt, rt.alloc(), &objects, &shading::WITH)
 }

@@ -1,11 +1,11 @@
 // Changes of the live objects. Where what a change asks for doesn't hold, nothing is done, and the test fails or is told.
-use d3d_state::{LiveShader, Objects};
+use d3d_state::{LiveShader, Objects, Setting};
 use dx_types::{CallNo, Form, Shape, ViewShape};
 use std::alloc::Global;
 use std::test::Fail;
 
 // Creates a buffer where that may be, and says whether it was.
-pub(crate) fn add_buffer(objects: &mut Objects, id: u32, shape: Shape) -> Result<bool, Fail> {
+pub(crate) fn add_buffer(objects: &mut Objects<'_>, id: u32, shape: Shape) -> Result<bool, Fail> {
     if objects.buffer_refusal(id, &shape).is_some() {
         return Ok(false);
     }
@@ -27,7 +27,7 @@ pub(crate) fn four_words(res: u32, writable: bool) -> ViewShape {
 
 // Creates a view of the first four words of a buffer where its id is free, and says whether it was.
 pub(crate) fn add_view(
-    objects: &mut Objects,
+    objects: &mut Objects<'_>,
     id: u32,
     res: u32,
     writable: bool,
@@ -43,7 +43,7 @@ pub(crate) fn add_view(
 // Creates the shader of these token bytes, as this call does.
 pub(crate) fn add_shader(
     alloc: Global,
-    objects: &mut Objects,
+    objects: &mut Objects<'_>,
     id: u32,
     call: CallNo,
     words: &[u8],
@@ -53,26 +53,28 @@ pub(crate) fn add_shader(
     Ok(())
 }
 
-pub(crate) fn set_constant(objects: &mut Objects, slot: u32, res: u32) -> Result<(), Fail> {
+pub(crate) fn set_constant(objects: &mut Objects<'_>, slot: u32, res: u32) -> Result<(), Fail> {
     if slot >= 14 {
         return Err(Fail::from("no constant slot"));
     }
-    objects.set_constant(slot, res);
+    objects.set(0, Setting::Constant { slot, res });
     Ok(())
 }
 
-pub(crate) fn set_srv(objects: &mut Objects, slot: u32, view: u32) -> Result<(), Fail> {
+pub(crate) fn set_srv(objects: &mut Objects<'_>, slot: u32, view: u32) -> Result<(), Fail> {
     if slot >= 16 {
         return Err(Fail::from("no shader resource slot"));
     }
-    objects.set_srv(slot, view);
+    let view = objects.bound_view(view);
+    objects.set(0, Setting::Srv { slot, view });
     Ok(())
 }
 
-pub(crate) fn set_uav(objects: &mut Objects, slot: u32, view: u32) -> Result<(), Fail> {
+pub(crate) fn set_uav(objects: &mut Objects<'_>, slot: u32, view: u32) -> Result<(), Fail> {
     if slot >= 8 {
         return Err(Fail::from("no unordered access slot"));
     }
-    objects.set_uav(slot, view);
+    let view = objects.bound_view(view);
+    objects.set(0, Setting::Uav { slot, view });
     Ok(())
 }

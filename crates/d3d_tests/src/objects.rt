@@ -5,7 +5,7 @@ mod shaders;
 
 use crate::live::{add_buffer, add_view, four_words, set_constant, set_srv, set_uav};
 use crate::same::same;
-use d3d_state::Objects;
+use d3d_state::{Objects, Setting};
 use dx_types::{Shape, Usage, ViewShape};
 use std::process::Abort;
 use std::test::Fail;
@@ -114,7 +114,7 @@ static BUFFERS_AND_VIEWS: [Row; 9] = [
     },
 ];
 
-fn take(rt: &impl Abort, objects: &mut Objects, shows: &str, step: &Step) -> Result<(), Fail> {
+fn take(rt: &impl Abort, objects: &mut Objects<'_>, shows: &str, step: &Step) -> Result<(), Fail> {
     match step {
         Step::AddBuffer(id, goes) => same(rt, &add_buffer(objects, *id, BUFFER)?, goes, shows),
         Step::AddView(id, res, writable, goes) => {
@@ -123,7 +123,7 @@ fn take(rt: &impl Abort, objects: &mut Objects, shows: &str, step: &Step) -> Res
         Step::SetConstant(slot, res) => set_constant(objects, *slot, *res)?,
         Step::SetSrv(slot, view) => set_srv(objects, *slot, *view)?,
         Step::SetUav(slot, view) => set_uav(objects, *slot, *view)?,
-        Step::ClearState => objects.clear_state(),
+        Step::ClearState => objects.set(0, Setting::Default),
         Step::DestroyBuffer(id) => objects.destroy_buffer(*id),
         Step::DestroyView(id) => objects.destroy_view(*id),
         Step::Buffer(id, want) => same(rt, &objects.buffer(*id), want, shows),
@@ -145,7 +145,7 @@ fn wanted(view: &Option<(u32, bool)>) -> Option<ViewShape> {
 // A buffer is in use by each of its views, and by what is set.
 #[test]
 fn buffers_and_views(rt: HostRuntime) -> Result<(), Fail> {
-    let mut objects = Objects::new(rt.alloc());
+    let mut objects = Objects::new(rt.alloc())?;
     for row in &BUFFERS_AND_VIEWS {
         for step in row.steps {
             take(&rt, &mut objects, row.shows, step)?;

@@ -1,6 +1,6 @@
 // Queries that are live, and which of them are in use.
 use crate::same::same;
-use d3d_state::{Objects, Query, Sort};
+use d3d_state::{Objects, Query, Setting, Sort};
 use d3d_views::Predicate;
 use dx_types::CallNo;
 use std::process::Abort;
@@ -77,18 +77,18 @@ static QUERIES: [Row; 6] = [
     },
 ];
 
-fn live_query(objects: &Objects, id: u32) -> Result<Query, Fail> {
+fn live_query(objects: &Objects<'_>, id: u32) -> Result<Query, Fail> {
     Ok(objects.query(id).ok_or("live")?)
 }
 
-fn set_predicate(objects: &mut Objects, query: Option<u32>) {
+fn set_predicate(objects: &mut Objects<'_>, query: Option<u32>) {
     match query {
-        Some(id) => objects.set_predicate(Predicate::Query { id, value: 1 }),
-        None => objects.set_predicate(Predicate::Never),
+        Some(id) => objects.set(0, Setting::Predicate(Predicate::Query { id, value: 1 })),
+        None => objects.set(0, Setting::Predicate(Predicate::Never)),
     }
 }
 
-fn take(rt: &impl Abort, objects: &mut Objects, shows: &str, step: &Step) -> Result<(), Fail> {
+fn take(rt: &impl Abort, objects: &mut Objects<'_>, shows: &str, step: &Step) -> Result<(), Fail> {
     match step {
         Step::Create(id, sort) => objects.create_query(*id, Query::new(*sort))?,
         Step::Begin(id) => objects.begin(*id),
@@ -115,7 +115,7 @@ fn take(rt: &impl Abort, objects: &mut Objects, shows: &str, step: &Step) -> Res
 // A query is begun and ended on the immediate context, and is in use as a predicate.
 #[test]
 fn queries(rt: HostRuntime) -> Result<(), Fail> {
-    let mut objects = Objects::new(rt.alloc());
+    let mut objects = Objects::new(rt.alloc())?;
     for row in &QUERIES {
         for step in row.steps {
             take(&rt, &mut objects, row.shows, step)?;

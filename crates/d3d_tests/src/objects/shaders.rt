@@ -1,7 +1,7 @@
 // Shaders that are live, and which of them are in use.
 use crate::live::add_shader;
 use crate::same::same;
-use d3d_state::{LiveShader, Objects};
+use d3d_state::{LiveShader, Objects, Setting};
 use dx_types::CallNo;
 use std::alloc::Global;
 use std::process::Abort;
@@ -88,35 +88,35 @@ static SHADERS: [Row; 7] = [
     },
 ];
 
-fn creator(objects: &Objects, id: u32) -> Option<CallNo> {
+fn creator(objects: &Objects<'_>, id: u32) -> Option<CallNo> {
     match objects.shader(id) {
         Some(shader) => Some(shader.call()),
         None => None,
     }
 }
 
-fn group_now(objects: &Objects) -> Option<[u32; 3]> {
-    match objects.shader_now() {
+fn group_now(objects: &Objects<'_>) -> Option<[u32; 3]> {
+    match objects.shader_on(0) {
         Some(shader) => Some(shader.group()),
         None => None,
     }
 }
 
-fn temps(objects: &Objects, id: u32) -> Result<u32, Fail> {
+fn temps(objects: &Objects<'_>, id: u32) -> Result<u32, Fail> {
     Ok(objects.shader(id).ok_or("live")?.tree().temps())
 }
 
 fn take(
     rt: &impl Abort,
     alloc: Global,
-    objects: &mut Objects,
+    objects: &mut Objects<'_>,
     shows: &str,
     step: &Step,
 ) -> Result<(), Fail> {
     match step {
         Step::Create(id, call, words) => add_shader(alloc, objects, *id, *call, words)?,
-        Step::Set(id) => objects.set_shader(*id),
-        Step::ClearState => objects.clear_state(),
+        Step::Set(id) => objects.set(0, Setting::Shader(*id)),
+        Step::ClearState => objects.set(0, Setting::Default),
         Step::Destroy(id) => objects.destroy_shader(*id),
         Step::Call(id, want) => same(rt, &creator(objects, *id), want, shows),
         Step::Group(want) => same(rt, &group_now(objects), want, shows),
@@ -131,7 +131,7 @@ fn take(
 fn shaders(rt: HostRuntime) -> Result<(), Fail> {
     let bad = LiveShader::decode(rt.alloc(), 1, &[1, 0, 0, 0])?;
     same(&rt, &bad.is_none(), &true, "a bad word");
-    let mut objects = Objects::new(rt.alloc());
+    let mut objects = Objects::new(rt.alloc())?;
     for row in &SHADERS {
         for step in row.steps {
             take(&rt, rt.alloc(), &mut objects, row.shows, step)?;
