@@ -1,85 +1,58 @@
 -- What holds beside the invariant is kept by each step of a part other than App, by posts that App takes, and by a
 -- hand-over.
 use Rattle.std.proofs.Common.{◌≡◌, ℕ, suc, ◌+◌, ◌*◌, ◌<◌, ◌≤◌, Bool, true, false, cond, ◌==◌, List, [], ◌∷◌, ◌++◌}
-use Rattle.std.proofs.Common.{length, sym, ap, ◌∙◌, subst, ◌⊎◌, inl, inr, Option, Some, None, slice_get, slice_set}
+use Rattle.std.proofs.Common.{sym, ap, ◌∙◌, subst, ◌⊎◌, inl, inr, Option, Some, None, slice_get, slice_set}
 use Rattle.std.proofs.Common.{arith}
 use Rattle.std.specs.List.{AllByRecursion}
 use Rattle.std.proofs.lemmas.Bool.{both_ways, cases_Bool, eqb-true, eq-eqb}
-use Rattle.vk_types.specs.Entries.{Entry}
 use Rattle.base_lemmas.proofs.Lists.{all_map}
 use Rattle.core_model.specs.Script.{Script, updated}
-use Rattle.core_model.specs.CoreState.{Segment, Running, Message, Owner, Unmade, Home, Returning, Spare, Board}
-use Rattle.core_model.specs.CoreState.{Newest, Core, of_messages, of_running, later, taken_count, open_number}
+use Rattle.core_model.specs.CoreState.{Segment, Owner, Unmade, Home, Returning, Spare, Board}
+use Rattle.core_model.specs.CoreState.{Newest, Core, later, taken_count, open_number}
 use Rattle.core_model.specs.Owners.{finish_owner}
 use Rattle.core_model.specs.Kept.{IsPageOf, IsFreeFrom, IsTakenBy, IsOfBuffer, IsMade, bound_at, ArePaged, IsNewest}
 use Rattle.core_model.specs.Kept.{PlacesRight, PagesRight, Names, Beside, Traced, IsTraced}
-use Rattle.core_model.proofs.Steps.Segments.{handed_length}
+use Rattle.core_model.proofs.Steps.ChunkMoves.{moved, same_count}
 use Rattle.core_model.proofs.Blocks.OwnerChanges.{places_by, blocks_by, names_by, named_by, paged_by, finish_keeps}
 use Rattle.core_model.proofs.Blocks.OwnerChanges.{finish_page, finish_free, finish_bound, set_other, set_here}
 
 -- The other parts ---------------------------------------------------------------------------------------------------
 
 -- chunks move on, in the same line
-module _ (script : Script) (old : Core) (posts completions : List Message) (accepted : List Running)
-    (submissions batches chunks : List Segment) (requested modules : List ℕ) (memory : ℕ → ℕ → ℕ)
-    (counts : ℕ → ℕ) (ran : List Entry) (owner : ℕ → Owner) (board : Board)
-    (e : of_messages posts
-    ++ (of_messages completions ++ (of_running accepted ++ (submissions ++ (batches ++ chunks)))) ≡ later old)
-  where
-    abbrev pub moved : Core
-    moved = record old {
-      posts = posts;
-      completions = completions;
-      accepted = accepted;
-      submissions = submissions;
-      batches = batches;
-      chunks = chunks;
-      requested = requested;
-      modules = modules;
-      memory = memory;
-      counts = counts;
-      ran = ran;
-      owner = owner;
-      board = board;
-    }
+module _ (script : Script) (old new : Core) (e : later new ≡ later old) where
+  abbrev now : Core
+  now = moved old new
 
-    same_number : open_number moved ≡ open_number old
-    same_number = ap suc (handed_length moved ∙ ap (λ l. length old.taken + length l) e ∙ sym (handed_length old))
+  same_number : open_number now ≡ open_number old
+  same_number = ap suc (same_count old new e)
 
-    pub moved_beside : Beside script (record old { owner = owner; board = board }) → Beside script moved
-    moved_beside b = record {
-      places = b.places;
-      pages =
-          subst (λ l. PagesRight owner (taken_count old) (open_number moved) l old.open_chunk.pages old.pool.newest)
-          (sym e)
-          (subst (λ n. PagesRight owner (taken_count old) n (later old) old.open_chunk.pages old.pool.newest)
-          (sym same_number) b.pages);
-      blocks = b.blocks;
-      named = subst (λ l. AllByRecursion (λ s. Names old.is_staging owner s.staging s.bound) (old.taken ++ l)) (sym e)
-          b.named;
-      named_open = b.named_open;
-      bound = b.bound;
-    }
+  moved_beside : Beside script (record old { owner = new.owner; board = new.board }) → Beside script now
+  moved_beside b = record {
+    places = b.places;
+    pages =
+        subst (λ l. PagesRight new.owner (taken_count old) (open_number now) l old.open_chunk.pages old.pool.newest)
+        (sym e)
+        (subst (λ n. PagesRight new.owner (taken_count old) n (later old) old.open_chunk.pages old.pool.newest)
+        (sym same_number) b.pages);
+    blocks = b.blocks;
+    named = subst (λ l. AllByRecursion (λ s. Names old.is_staging new.owner s.staging s.bound) (old.taken ++ l)) (sym e)
+        b.named;
+    named_open = b.named_open;
+    bound = b.bound;
+  }
 
 -- and so do the turns that the chunks have
 abbrev pub Both : Script → Core → Type 0
 Both script core = Beside script core × IsTraced script core
 
-module _ (script : Script) (old : Core) (posts completions : List Message) (accepted : List Running)
-    (submissions batches chunks : List Segment) (requested modules : List ℕ) (memory : ℕ → ℕ → ℕ)
-    (counts : ℕ → ℕ) (ran : List Entry) (owner : ℕ → Owner) (board : Board)
-    (e : of_messages posts
-    ++ (of_messages completions ++ (of_running accepted ++ (submissions ++ (batches ++ chunks)))) ≡ later old)
-  where
-    pub moved_both : Beside script (record old { owner = owner; board = board }) → IsTraced script old
-        → Both script (moved script old posts completions accepted submissions batches chunks requested modules memory
-        counts ran owner board e)
-    moved_both b k = (
-      moved_beside script old posts completions accepted submissions batches chunks requested modules memory counts
-          ran owner board e b,
-      subst (λ l. Traced script old.blocks old.past (old.taken ++ l) old.open_chunk.turns old.open_chunk.bound
-          old.open_chunk.writes old.open_chunk.commands) (sym e) k,
-    )
+pub moved_both : (script : Script) (old new : Core) → later new ≡ later old
+    → Beside script (record old { owner = new.owner; board = new.board }) → IsTraced script old
+    → Both script (moved old new)
+moved_both script old new e b k = (
+  moved_beside script old new e b,
+  subst (λ l. Traced script old.blocks old.past (old.taken ++ l) old.open_chunk.turns old.open_chunk.bound
+      old.open_chunk.writes old.open_chunk.commands) (sym e) k,
+)
 
 pub newest_by : (f : ℕ → Owner → Owner) (n : ℕ) (own : ℕ → Owner) (top : Option Newest)
     → ((b : ℕ) (o : Owner) → IsPageOf n o → IsPageOf n (f b o))

@@ -42,21 +42,19 @@ others_beside meaning reading script old Cs new h p b =
     let s = p.0 in
     let ss = p.1 in
     subst (Both script) (sym p.4)
-    (moved_both script old old.posts old.completions old.accepted old.submissions (old.batches ++ s ∷ []) ss
-    (old.requested ++ created s.turns) old.modules old.memory old.counts old.ran old.owner old.board
+    (moved_both script old
+    (record old { batches = old.batches ++ s ∷ []; chunks = ss; requested = old.requested ++ created s.turns })
     (ap (λ l. of_messages old.posts ++ (of_messages old.completions
     ++ (of_running old.accepted ++ (old.submissions ++ l)))) (append_assoc old.batches (s ∷ []) ss
     ∙ ap (λ l. old.batches ++ l) (sym p.2))) b.0 b.1)
 others_beside meaning reading script old (Pipe j) new h p b =
     subst (Both script) (sym p.2)
-    (moved_both script old old.posts old.completions old.accepted old.submissions old.batches old.chunks
-    old.requested (old.modules ++ p.0 ∷ []) old.memory old.counts old.ran old.owner old.board refl b.0 b.1)
+    (moved_both script old (record old { modules = old.modules ++ p.0 ∷ [] }) refl b.0 b.1)
 others_beside meaning reading script old Submit new h p b =
     let s = p.0 in
     let ss = p.1 in
     subst (Both script) (sym p.5)
-    (moved_both script old old.posts old.completions old.accepted (old.submissions ++ s ∷ []) ss old.chunks
-    old.requested old.modules old.memory old.counts old.ran old.owner old.board
+    (moved_both script old (record old { submissions = old.submissions ++ s ∷ []; batches = ss })
     (ap (λ l. of_messages old.posts ++ (of_messages old.completions ++ (of_running old.accepted ++ l)))
     (append_assoc old.submissions (s ∷ []) (ss ++ old.chunks)
     ∙ ap (λ l. old.submissions ++ (l ++ old.chunks)) (sym p.2))) b.0 b.1)
@@ -64,10 +62,11 @@ others_beside meaning reading script old Accept new h p b =
     let s = p.0 in
     let ss = p.1 in
     let begun : Running = record { segment = s; rest = s.commands } in
+    let memory = run_entries meaning s.writes old.memory in
     let z = old.batches ++ old.chunks in
     subst (Both script) (sym p.4)
-    (moved_both script old old.posts old.completions (old.accepted ++ begun ∷ []) ss old.batches old.chunks
-    old.requested old.modules (run_entries meaning s.writes old.memory) old.counts old.ran old.owner old.board
+    (moved_both script old
+    (record old { accepted = old.accepted ++ begun ∷ []; submissions = ss; memory = memory })
     (ap (λ l. of_messages old.posts ++ (of_messages old.completions ++ l))
     (ap (λ l. l ++ (ss ++ z)) (of_running-append old.accepted (begun ∷ []))
     ∙ append_assoc (of_running old.accepted) (s ∷ []) (ss ++ z)
@@ -79,9 +78,12 @@ others_beside meaning reading script old (Run j) new h p b =
     let x = p.5 in
     let after : Running = record { segment = r.segment; rest = p.4 ++ p.6 } in
     subst (Both script) (sym p.10)
-    (moved_both script old old.posts old.completions (front ++ after ∷ back) old.submissions old.batches old.chunks
-    old.requested old.modules (act_effect meaning x.act old.memory)
-    (counted meaning x.act old.memory old.counts) (old.ran ++ x ∷ []) old.owner old.board
+    (moved_both script old (record old {
+      accepted = front ++ after ∷ back;
+      memory = act_effect meaning x.act old.memory;
+      counts = counted meaning x.act old.memory old.counts;
+      ran = old.ran ++ x ∷ [];
+    })
     (ap (λ l. of_messages old.posts ++ (of_messages old.completions
     ++ (l ++ (old.submissions ++ (old.batches ++ old.chunks)))))
     (of_running-append front (after ∷ back) ∙ sym (of_running-append front (r ∷ back)) ∙ ap of_running (sym p.3)))
@@ -96,8 +98,7 @@ others_beside meaning reading script old Complete new h p b =
     } in
     let z = old.submissions ++ (old.batches ++ old.chunks) in
     subst (Both script) (sym p.5)
-    (moved_both script old old.posts (old.completions ++ m ∷ []) rs old.submissions old.batches old.chunks
-    old.requested old.modules old.memory old.counts old.ran old.owner old.board
+    (moved_both script old (record old { completions = old.completions ++ m ∷ []; accepted = rs })
     (ap (λ l. of_messages old.posts ++ l)
     (ap (λ l. l ++ (of_running rs ++ z)) (of_messages-append old.completions (m ∷ []))
     ∙ append_assoc (of_messages old.completions) (r.segment ∷ []) (of_running rs ++ z)
@@ -110,9 +111,9 @@ others_beside meaning reading script old Finish new h p b =
     let line : of_messages posts ++ of_messages ms ≡ of_messages old.posts ++ of_messages old.completions =
     sym (of_messages-append posts ms) ∙ ap of_messages (append_assoc old.posts (m ∷ []) ms
     ∙ ap (λ l. old.posts ++ l) (sym p.2)) ∙ of_messages-append old.posts old.completions in
+    let owner : ℕ → Owner = λ b. finish_owner (suc (finished_count old)) b (old.owner b) in
     subst (Both script) (sym p.4)
-    (moved_both script old posts ms old.accepted old.submissions old.batches old.chunks old.requested old.modules
-    old.memory old.counts old.ran (λ b. finish_owner (suc (finished_count old)) b (old.owner b)) old.board
+    (moved_both script old (record old { posts = posts; completions = ms; owner = owner })
     (sym (append_assoc (of_messages posts) (of_messages ms) rest) ∙ ap (λ l. l ++ rest) line
     ∙ append_assoc (of_messages old.posts) (of_messages old.completions) rest)
     (finished_beside script old (suc (finished_count old)) b.0) b.1)

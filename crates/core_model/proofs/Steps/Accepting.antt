@@ -306,18 +306,14 @@ module _ (meaning : Meaning) (reading : Reading) (script : Script) (old : Core) 
     snaps_more (earlier ++ entries m.segment) ms after h.1,
   )
 
+  abbrev now : Core
+  now = record old { submissions = ss; accepted = accepted; memory = run_entries meaning s.writes old.memory }
+
   accepted_good : has_place reading (length old.accepted) ≡ true → Good meaning reading script old
-      → Good meaning reading script (record old {
-        submissions = ss;
-        accepted = accepted;
-        memory =
-            run_entries meaning s.writes old.memory;
-      })
+      → Good meaning reading script now
   accepted_good room g =
       let so = g.sound in
-      moved_good meaning reading script old old.posts old.completions accepted ss old.batches old.chunks
-      old.requested old.modules (run_entries meaning s.writes old.memory) old.counts old.ran
-      old.owner old.board (ap (λ l. of_messages old.posts ++ (of_messages old.completions ++ l))
+      moved_good meaning reading script old now (ap (λ l. of_messages old.posts ++ (of_messages old.completions ++ l))
       (accepted_line (old.batches ++ old.chunks))) g (record {
         sizes = λ four.
             let z = so.sizes four in

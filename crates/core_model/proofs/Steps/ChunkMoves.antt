@@ -9,7 +9,7 @@ use Rattle.vk_types.specs.Entries.{Entry, EntriesCovered, EntriesKeep, run_entri
 use Rattle.base_lemmas.proofs.Lists.{all_map}
 use Rattle.core_model.specs.Script.{Script, at_start, in_order}
 use Rattle.core_model.specs.Chunking.{cut}
-use Rattle.core_model.specs.CoreState.{Segment, flat, Running, Message, Owner, Board, Core, of_messages, of_running}
+use Rattle.core_model.specs.CoreState.{flat, Owner, Core, of_running}
 use Rattle.core_model.specs.CoreState.{rests, segments, later, on_device, listed, taken_count, finished_count}
 use Rattle.core_model.specs.CoreState.{handed_count, open_number}
 use Rattle.core_model.specs.Readings.{Reading}
@@ -35,96 +35,95 @@ known_more t f h t' f' h' w e rs own own' lf lh keep x k = record {
   owned = λ h block i u. keep block i x.chunk (k.owned h block i u);
 }
 
-module _ (meaning : Meaning) (reading : Reading) (script : Script) (old : Core)
-    (posts completions : List Message) (accepted : List Running) (submissions batches chunks : List Segment)
-    (requested modules : List ℕ)
-    (memory : ℕ → ℕ → ℕ) (counts : ℕ → ℕ) (ran : List Entry) (owner : ℕ → Owner) (board : Board)
-    (e : of_messages posts
-    ++ (of_messages completions ++ (of_running accepted ++ (submissions ++ (batches ++ chunks)))) ≡ later old)
-  where
-    abbrev pub moved : Core
-    moved = record old {
-      posts = posts;
-      completions = completions;
-      accepted = accepted;
-      submissions = submissions;
-      batches = batches;
-      chunks = chunks;
-      requested = requested;
-      modules = modules;
-      memory = memory;
-      counts = counts;
-      ran = ran;
-      owner = owner;
-      board = board;
-    }
+-- the core with what changes as chunks move on
+abbrev pub moved : Core → Core → Core
+moved old new = record old {
+  posts = new.posts;
+  completions = new.completions;
+  accepted = new.accepted;
+  submissions = new.submissions;
+  batches = new.batches;
+  chunks = new.chunks;
+  requested = new.requested;
+  modules = new.modules;
+  memory = new.memory;
+  counts = new.counts;
+  ran = new.ran;
+  owner = new.owner;
+  board = new.board;
+}
 
-    -- what such a step owes
-    pub record Owes : Type 0 where
-      pub sizes : IsSized reading moved
-      pub finished : finished_count old ≤ finished_count moved
-      pub since : (b : ℕ) → IsSince (finished_count moved) (owner b)
-      pub allows : (block i chunk : ℕ) → Allows (taken_count old) (finished_count old) (old.owner block) i chunk
-          → Allows (taken_count old) (finished_count moved) (owner block) i chunk
-      pub live : (r b : ℕ) → IsLive r (old.owner b) → IsLive r (owner b)
-      pub within : AllByRecursion (λ r. Sublist r.rest r.segment.commands) accepted
-      pub device : run_world meaning (rests accepted) (record { memory = memory; counts = counts })
-          ≡ run_world meaning (flat (on_device moved)) empty
-      pub whole : IsReordering (commands_of (on_device moved)) (ran ++ rests accepted)
-      pub order : EntriesKeep (ran ++ rests accepted)
-      pub snaps : SnapsRight meaning (flat old.taken) (posts ++ completions) (of_running accepted)
+-- they stay in one line, so none is lost
+pub same_count : (old new : Core) → later new ≡ later old → handed_count (moved old new) ≡ handed_count old
+same_count old new e = handed_length (moved old new) ∙ ap (λ l. length old.taken + length l) e ∙ sym (handed_length old)
 
-    same_segments : segments moved ≡ segments old
-    same_segments = segments_later moved ∙ ap (λ l. old.taken ++ (l ++ old.open_chunk ∷ [])) e
-        ∙ sym (segments_later old)
+module _ (meaning : Meaning) (reading : Reading) (script : Script) (old new : Core) (e : later new ≡ later old) where
+  abbrev now : Core
+  now = moved old new
 
-    same_count : handed_count moved ≡ handed_count old
-    same_count = handed_length moved ∙ ap (λ l. length old.taken + length l) e ∙ sym (handed_length old)
+  -- what such a step owes
+  pub record Owes : Type 0 where
+    pub sizes : IsSized reading now
+    pub finished : finished_count old ≤ finished_count now
+    pub since : (b : ℕ) → IsSince (finished_count now) (new.owner b)
+    pub allows : (block i chunk : ℕ) → Allows (taken_count old) (finished_count old) (old.owner block) i chunk
+        → Allows (taken_count old) (finished_count now) (new.owner block) i chunk
+    pub live : (r b : ℕ) → IsLive r (old.owner b) → IsLive r (new.owner b)
+    pub within : AllByRecursion (λ r. Sublist r.rest r.segment.commands) new.accepted
+    pub device : run_world meaning (rests new.accepted) (record { memory = new.memory; counts = new.counts })
+        ≡ run_world meaning (flat (on_device now)) empty
+    pub whole : IsReordering (commands_of (on_device now)) (new.ran ++ rests new.accepted)
+    pub order : EntriesKeep (new.ran ++ rests new.accepted)
+    pub snaps : SnapsRight meaning (flat old.taken) (new.posts ++ new.completions) (of_running new.accepted)
 
-    pub moved_good : Good meaning reading script old → Owes → Good meaning reading script moved
-    moved_good g o = let s = g.sound in record {
-      sound = record {
-        position = s.position;
-        cut = s.cut ∙ ap (λ l. turns_of (old.taken ++ l) ++ cut script old.open_chunk.turns old.future) (sym e);
-        sizes = o.sizes;
-        bounded = λ many. let b = s.bounded many in let n = same_count in omega (arith, b, n);
-        grows =
-            subst (λ n. IsListed old.is_staging old.listing old.open_chunk.ops old.contents old.recent
-            old.open_chunk.commands n (listed_acts moved)) (ap suc (sym same_count))
-            (subst (IsListed old.is_staging old.listing old.open_chunk.ops old.contents old.recent
-            old.open_chunk.commands (open_number old))
-            (ap (λ l. flat (old.taken ++ l) ++ (old.open_chunk.reads ++ old.open_chunk.writes)) (sym e)) s.grows);
-        counted = s.counted;
-        fence = let f = s.fence in let l = o.finished in omega (arith, f, l);
-        covered = subst (λ l. EntriesCovered (flat l)) (sym same_segments) s.covered;
-        known =
-            let n = same_count in
-            subst (λ l. AllByRecursion (KnownIn moved) (flat l)) (sym same_segments)
-            (all_map (KnownIn old) (KnownIn moved)
-            (known_more (taken_count old) (finished_count old) (handed_count old) (taken_count old)
-            (finished_count moved) (handed_count moved) old.host_acts old.epoch old.recent old.owner owner
-            o.finished (omega (arith, n)) o.allows)
-            (listed old) s.known);
-        since = o.since;
-        numbered = subst (Numbered 0) (sym same_segments) s.numbered;
-        shaped = subst (AllByRecursion IsShaped) (sym same_segments) s.shaped;
-        binds = subst (AllByRecursion BindsUses) (sym same_segments) s.binds;
-        filled = subst (λ l. AllByRecursion IsFilled (flat l)) (sym same_segments) s.filled;
-        within = o.within;
-        device = o.device;
-        whole = o.whole;
-        order = o.order;
-        snaps = o.snaps;
-        copies = λ r b st is n i l.
-            s.copies r b st is (subst (λ l. used_in (l ++ old.open_chunk ∷ []) b ≡ false) e n) i l
-            ∙ ap (λ l. run_entries meaning (flat l) zeros b i) (sym same_segments);
-        names = subst (AllByRecursion (NamesStaging script old.blocks)) (sym same_segments) s.names;
-        elsewhere = subst WritesElsewhere (sym same_segments) s.elsewhere;
-      };
-      stands = subst (λ l. Stands script (run_entries meaning (flat l) zeros) old.blocks
-          (in_order meaning script old.past at_start)) (sym same_segments) g.stands;
-      live = λ r b is. o.live r b (g.live r b is);
-      totals = subst (λ l. Totals (run_world meaning (flat l) empty).counts old.commands
-          (in_order meaning script old.past at_start)) (sym same_segments) g.totals;
-      replies = g.replies;
-    }
+  same_segments : segments now ≡ segments old
+  same_segments = segments_later now ∙ ap (λ l. old.taken ++ (l ++ old.open_chunk ∷ [])) e
+      ∙ sym (segments_later old)
+
+  pub moved_good : Good meaning reading script old → Owes → Good meaning reading script now
+  moved_good g o = let s = g.sound in record {
+    sound = record {
+      position = s.position;
+      cut = s.cut ∙ ap (λ l. turns_of (old.taken ++ l) ++ cut script old.open_chunk.turns old.future) (sym e);
+      sizes = o.sizes;
+      bounded = λ many. let b = s.bounded many in let n = same_count old new e in omega (arith, b, n);
+      grows =
+          subst (λ n. IsListed old.is_staging old.listing old.open_chunk.ops old.contents old.recent
+          old.open_chunk.commands n (listed_acts now)) (ap suc (sym (same_count old new e)))
+          (subst (IsListed old.is_staging old.listing old.open_chunk.ops old.contents old.recent
+          old.open_chunk.commands (open_number old))
+          (ap (λ l. flat (old.taken ++ l) ++ (old.open_chunk.reads ++ old.open_chunk.writes)) (sym e)) s.grows);
+      counted = s.counted;
+      fence = let f = s.fence in let l = o.finished in omega (arith, f, l);
+      covered = subst (λ l. EntriesCovered (flat l)) (sym same_segments) s.covered;
+      known =
+          let n = same_count old new e in
+          subst (λ l. AllByRecursion (KnownIn now) (flat l)) (sym same_segments)
+          (all_map (KnownIn old) (KnownIn now)
+          (known_more (taken_count old) (finished_count old) (handed_count old) (taken_count old)
+          (finished_count now) (handed_count now) old.host_acts old.epoch old.recent old.owner new.owner
+          o.finished (omega (arith, n)) o.allows)
+          (listed old) s.known);
+      since = o.since;
+      numbered = subst (Numbered 0) (sym same_segments) s.numbered;
+      shaped = subst (AllByRecursion IsShaped) (sym same_segments) s.shaped;
+      binds = subst (AllByRecursion BindsUses) (sym same_segments) s.binds;
+      filled = subst (λ l. AllByRecursion IsFilled (flat l)) (sym same_segments) s.filled;
+      within = o.within;
+      device = o.device;
+      whole = o.whole;
+      order = o.order;
+      snaps = o.snaps;
+      copies = λ r b st is n i l.
+          s.copies r b st is (subst (λ l. used_in (l ++ old.open_chunk ∷ []) b ≡ false) e n) i l
+          ∙ ap (λ l. run_entries meaning (flat l) zeros b i) (sym same_segments);
+      names = subst (AllByRecursion (NamesStaging script old.blocks)) (sym same_segments) s.names;
+      elsewhere = subst WritesElsewhere (sym same_segments) s.elsewhere;
+    };
+    stands = subst (λ l. Stands script (run_entries meaning (flat l) zeros) old.blocks
+        (in_order meaning script old.past at_start)) (sym same_segments) g.stands;
+    live = λ r b is. o.live r b (g.live r b is);
+    totals = subst (λ l. Totals (run_world meaning (flat l) empty).counts old.commands
+        (in_order meaning script old.past at_start)) (sym same_segments) g.totals;
+    replies = g.replies;
+  }

@@ -325,12 +325,14 @@ module _ (meaning : Meaning) (reading : Reading) (script : Script) (old : Core) 
       is_false true h = absurd (cc h)
       is_false false h = refl
 
+  abbrev completed : Core
+  completed = record old { accepted = rs; completions = completions }
+
   completed_good : has_place reading (length old.completions) ≡ true → Good meaning reading script old
-      → Good meaning reading script (record old { accepted = rs; completions = completions })
+      → Good meaning reading script completed
   completed_good room g =
       let so = g.sound in
-      moved_good meaning reading script old old.posts completions rs old.submissions old.batches old.chunks
-      old.requested old.modules old.memory old.counts old.ran old.owner old.board
+      moved_good meaning reading script old completed
       (ap (λ l. of_messages old.posts ++ l) (completed_line (old.submissions ++ (old.batches ++ old.chunks)))) g
       (record {
         sizes = λ four.

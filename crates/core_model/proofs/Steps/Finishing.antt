@@ -103,8 +103,8 @@ finish_good meaning reading script old new p g =
     ∙ append_assoc (of_messages old.posts) (of_messages old.completions) (of_running old.accepted)) in
     let owner : ℕ → Owner = λ b. finish_owner (suc n) b (old.owner b) in
     subst (Good meaning reading script) (sym p.4)
-    (moved_good meaning reading script old posts ms old.accepted old.submissions old.batches old.chunks
-    old.requested old.modules old.memory old.counts old.ran owner old.board same g (record {
+    (moved_good meaning reading script old (record old { posts = posts; completions = ms; owner = owner }) same g
+    (record {
       sizes = λ four.
           let z = s.sizes four in
           let l = place_of reading (length old.posts) four p.3 in
@@ -163,9 +163,8 @@ come_home_good meaning reading script old block place new p g =
     let k = p.1 in
     let e = p.2 in
     subst (Good meaning reading script) (sym p.6)
-    (moved_good meaning reading script old old.posts old.completions old.accepted old.submissions old.batches
-    old.chunks old.requested old.modules old.memory old.counts old.ran
-    (updated block (Home k) old.owner) _ refl g (record {
+    (moved_good meaning reading script old (record old { owner = updated block (Home k) old.owner; board = _ }) refl
+    g (record {
       sizes = s.sizes;
       finished = omega arith;
       since = λ b. home_since (finished_count old) block k old.owner e b (s.since b);

@@ -23,19 +23,19 @@ module _ (meaning : Meaning) (reading : Reading) (script : Script) (old : Core)
     (submissions batches chunks : List Segment) (requested modules : List ℕ)
     (e : submissions ++ (batches ++ chunks) ≡ old.submissions ++ (old.batches ++ old.chunks))
     (sized : has_place reading 4 ≡ false → (length submissions ≤ 4) × (length batches ≤ 4) × (length chunks ≤ 4)) where
-  headed_good : Good meaning reading script old
-      → Good meaning reading script (record old {
-        submissions = submissions;
-        batches = batches;
-        chunks =
-            chunks;
-        requested = requested;
-        modules = modules;
-      })
+  abbrev headed : Core
+  headed = record old {
+    submissions = submissions;
+    batches = batches;
+    chunks = chunks;
+    requested = requested;
+    modules = modules;
+  }
+
+  headed_good : Good meaning reading script old → Good meaning reading script headed
   headed_good g =
       let s = g.sound in
-      moved_good meaning reading script old old.posts old.completions old.accepted submissions batches chunks
-      requested modules old.memory old.counts old.ran old.owner old.board
+      moved_good meaning reading script old headed
       (ap (λ l. of_messages old.posts ++ (of_messages old.completions ++ (of_running old.accepted ++ l))) e) g (record {
         sizes = λ four. let z = s.sizes four in let y = sized four in (z.0, z.1, z.2, y.0, y.1, y.2);
         finished = omega arith;

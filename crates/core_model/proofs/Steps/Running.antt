@@ -138,10 +138,7 @@ module _ (meaning : Meaning) (reading : Reading) (script : Script) (old : Core)
       (rests front ++ passed) → Good meaning reading script ran
   ran_good g ready =
       let s = g.sound in
-      moved_good meaning reading script old old.posts old.completions (front ++ after_run ∷ back) old.submissions
-      old.batches old.chunks old.requested old.modules
-      (act_effect meaning x.act old.memory) (counted meaning x.act old.memory old.counts) (old.ran ++ x ∷ [])
-      old.owner old.board
+      moved_good meaning reading script old ran
       (ap (λ l. of_messages old.posts ++ (of_messages old.completions
       ++ (l ++ (old.submissions ++ (old.batches ++ old.chunks))))) ran_running) g (record {
         sizes = λ four. let z = s.sizes four in (z.0, z.1, subst (λ n. n ≤ 4) (sym ran_length) z.2, z.3, z.4, z.5);
