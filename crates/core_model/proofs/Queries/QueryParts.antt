@@ -66,8 +66,9 @@ then_same a s = record {
   above = λ k l h. s.above k (a.above k l h);
 }
 
--- other parts of the state do not matter
-pub same_rest : (core new : Core) → Same core (record new {
+-- the core with the parts of another that queries see
+abbrev pub with_seen : Core → Core → Core
+with_seen core new = record new {
   past = core.past;
   taken = core.taken;
   posts = core.posts;
@@ -85,15 +86,17 @@ pub same_rest : (core new : Core) → Same core (record new {
   };
   values = core.values;
   commands = core.commands;
-})
+}
+
+-- other parts of the state do not matter
+pub same_rest : (core new : Core) → Same core (with_seen core new)
 same_rest core new = record {
   past = refl;
   taken = refl;
   later = refl;
   messages = refl;
   values = refl;
-  turns =
-      refl;
+  turns = refl;
   queries = refl;
   commands = refl;
   listed = refl;
@@ -101,26 +104,14 @@ same_rest core new = record {
 }
 
 pub rest_adds : {t : Turn} {n : ℕ} {ms : List QueryMark} {old core : Core} (new : Core) → Adds t n ms old core
-    → Adds t n ms old (record new {
-      past = core.past;
-      taken = core.taken;
-      posts = core.posts;
-      completions = core.completions;
-      accepted = core.accepted;
-      submissions = core.submissions;
-      batches = core.batches;
-      chunks = core.chunks;
-      open_chunk = record new.open_chunk {
-        turns = core.open_chunk.turns;
-        reads = core.open_chunk.reads;
-        writes = core.open_chunk.writes;
-        commands = core.open_chunk.commands;
-        queries = core.open_chunk.queries;
-      };
-      values = core.values;
-      commands = core.commands;
-    })
+    → Adds t n ms old (with_seen core new)
 rest_adds {t} {n} {ms} {old} {core} new a = then_same a (same_rest core new)
+
+-- so a turn adds the same where the core that it leaves has them
+pub adds_as : {t : Turn} {n : ℕ} {ms : List QueryMark} {old core left new : Core} → new ≡ left → Adds t n ms old core
+    → left ≡ with_seen core left → Adds t n ms old new
+adds_as {t} {n} {ms} {old} {core} {left} {new} p a e =
+    subst (Adds t n ms old) (sym (p ∙ e)) (rest_adds left a)
 
 -- Parts of an item --------------------------------------------------------------------------------------------------
 

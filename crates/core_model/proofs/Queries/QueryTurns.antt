@@ -16,8 +16,8 @@ use Rattle.core_model.specs.Owners.{retired}
 use Rattle.core_model.specs.AppActs.{answer, TakesTurn}
 use Rattle.core_model.specs.Queries.{commands_by, turn_marks, command_numbers}
 pub use Rattle.core_model.proofs.Queries.QueryParts.{Adds}
-use Rattle.core_model.proofs.Queries.QueryParts.{then_same, same_rest, rest_adds, turn_adds, same_write, same_fenced}
-use Rattle.core_model.proofs.Queries.QueryParts.{same_read, same_block, command_adds}
+use Rattle.core_model.proofs.Queries.QueryParts.{then_same, same_rest, rest_adds, adds_as, turn_adds, same_write}
+use Rattle.core_model.proofs.Queries.QueryParts.{same_fenced, same_read, same_block, command_adds}
 
 -- The turns ---------------------------------------------------------------------------------------------------------
 
@@ -39,172 +39,46 @@ plays_adds reading script call item ends (Create buffer bytes) bound turns old n
     let a = then_same (turn_adds t turns old) (same_block reading script buffer p.0 (with_turn t turns old) p.1 p.2) in
     let b = then_same a (same_fenced (retired_by (old.owner p.0)) p.1) in
     let g = then_same b (same_rest _ (gives_block buffer p.0 (fenced (retired_by (old.owner p.0)) p.1))) in
-    subst (Adds t 0 [] old) (sym p.3) (let z =
-    (then_same g (same_write call (range p.0 0 (length_of script buffer))
-    (padded 0 bytes (length_of script buffer)) _)) in
-    record {
-      past = z.past;
-      taken = z.taken;
-      later = z.later;
-      messages = z.messages;
-      values = z.values;
-      turns =
-          z.turns;
-      queries = z.queries;
-      commands = z.commands;
-      numbers = z.numbers;
-      above = z.above;
-    })
+    adds_as p.3 (then_same g (same_write call (range p.0 0 (length_of script buffer))
+    (padded 0 bytes (length_of script buffer)) _)) refl
 plays_adds reading script call item ends (Discard buffer from bytes) bound turns old new p =
     let t = Item call item ends (Discard buffer from bytes) bound in
     let a = then_same (turn_adds t turns old) (same_block reading script buffer p.0 (with_turn t turns old) p.1 p.2) in
     let mid : Core = record p.1 { owner = retired (old.blocks buffer) (open_number old) p.1.owner } in
     let b = then_same (rest_adds mid a) (same_fenced (retired_by (old.owner p.0)) mid) in
     let g = then_same b (same_rest _ (gives_block buffer p.0 (fenced (retired_by (old.owner p.0)) mid))) in
-    subst (Adds t 0 [] old) (sym p.3) (let z =
-    (then_same g (same_write call (range p.0 0 (script.size buffer)) (padded from bytes (script.size buffer))
-    _)) in
-    record {
-      past = z.past;
-      taken = z.taken;
-      later = z.later;
-      messages = z.messages;
-      values = z.values;
-      turns =
-          z.turns;
-      queries = z.queries;
-      commands = z.commands;
-      numbers = z.numbers;
-      above = z.above;
-    })
+    adds_as p.3 (then_same g (same_write call (range p.0 0 (script.size buffer))
+    (padded from bytes (script.size buffer)) _)) refl
 plays_adds reading script call item ends (No_overwrite buffer from bytes) bound turns old new p =
     let t = Item call item ends (No_overwrite buffer from bytes) bound in
-    subst (Adds t 0 [] old) (sym p) (let z =
-    (then_same (turn_adds t turns old)
+    adds_as p (then_same (turn_adds t turns old)
     (same_write call (range (block_of old.blocks buffer) from (from + length bytes)) bytes
-    (with_turn t turns old))) in
-    record {
-      past = z.past;
-      taken = z.taken;
-      later = z.later;
-      messages = z.messages;
-      values = z.values;
-      turns =
-          z.turns;
-      queries = z.queries;
-      commands = z.commands;
-      numbers = z.numbers;
-      above = z.above;
-    })
+    (with_turn t turns old))) refl
 plays_adds reading script call item ends (Stage [] target skip) bound turns old new p =
-    let t = Item call item ends (Stage [] target skip) bound in
-    subst (Adds t 0 [] old) (sym p) (let z = (turn_adds t turns old) in
-    record {
-      past = z.past;
-      taken = z.taken;
-      later = z.later;
-      messages = z.messages;
-      values = z.values;
-      turns =
-          z.turns;
-      queries = z.queries;
-      commands = z.commands;
-      numbers = z.numbers;
-      above = z.above;
-    })
+    adds_as p (turn_adds _ turns old) refl
 plays_adds reading script call item ends (Stage (b ∷ bs) None skip) bound turns old new p =
     let t = Item call item ends (Stage (b ∷ bs) None skip) bound in
     let s = p.0 in
     let paged : Core = with_page s p.1 (with_turn t turns old) in
-    subst (Adds t 0 [] old) (sym p.3) (let z =
-    (then_same (rest_adds paged (turn_adds t turns old))
-    (same_write call (staged_range s (length (b ∷ bs))) (b ∷ bs) paged)) in
-    record {
-      past = z.past;
-      taken = z.taken;
-      later = z.later;
-      messages = z.messages;
-      values = z.values;
-      turns =
-          z.turns;
-      queries = z.queries;
-      commands = z.commands;
-      numbers = z.numbers;
-      above = z.above;
-    })
+    adds_as p.3 (then_same (rest_adds paged (turn_adds t turns old))
+    (same_write call (staged_range s (length (b ∷ bs))) (b ∷ bs) paged)) refl
 plays_adds reading script call item ends (Stage (b ∷ bs) (Some target) skip) bound turns old new p =
     let t = Item call item ends (Stage (b ∷ bs) (Some target) skip) bound in
     let s = p.0 in
     let paged : Core = with_page s p.1 (with_turn t turns old) in
     let written = then_same (rest_adds paged (turn_adds t turns old))
     (same_write call (staged_range s (length (b ∷ bs))) (b ∷ bs) paged) in
-    subst (Adds t 1 [] old) (sym p.3) (let z =
-    (command_adds
+    adds_as p.3 (command_adds
     (new_command old call (work.Copy (staged_range s (length (b ∷ bs))) (range_on old.blocks target))
-    (cond_on old.blocks skip)) _ refl written) in
-    record {
-      past = z.past;
-      taken = z.taken;
-      later = z.later;
-      messages = z.messages;
-      values = z.values;
-      turns =
-          z.turns;
-      queries = z.queries;
-      commands = z.commands;
-      numbers = z.numbers;
-      above = z.above;
-    })
+    (cond_on old.blocks skip)) _ refl written) refl
 plays_adds reading script call item ends (Command w skip) bound turns old new p =
     let t = Item call item ends (Command w skip) bound in
-    subst (Adds t 1 [] old) (sym p) (let z =
-    (command_adds (new_command old call (work_on old.blocks w) (cond_on old.blocks skip)) _ refl
-    (turn_adds t turns old)) in
-    record {
-      past = z.past;
-      taken = z.taken;
-      later = z.later;
-      messages = z.messages;
-      values = z.values;
-      turns =
-          z.turns;
-      queries = z.queries;
-      commands = z.commands;
-      numbers = z.numbers;
-      above = z.above;
-    })
+    adds_as p (command_adds (new_command old call (work_on old.blocks w) (cond_on old.blocks skip)) _ refl
+    (turn_adds t turns old)) refl
 plays_adds reading script call item ends (Destroy buffer) bound turns old new p =
-    let t = Item call item ends (Destroy buffer) bound in
-    subst (Adds t 0 [] old) (sym p) (let z = (turn_adds t turns old) in
-    record {
-      past = z.past;
-      taken = z.taken;
-      later = z.later;
-      messages = z.messages;
-      values = z.values;
-      turns =
-          z.turns;
-      queries = z.queries;
-      commands = z.commands;
-      numbers = z.numbers;
-      above = z.above;
-    })
+    adds_as p (turn_adds _ turns old) refl
 plays_adds reading script call item ends Create_shader bound turns old new p =
-    let t = Item call item ends Create_shader bound in
-    subst (Adds t 0 [] old) (sym p) (let z = (turn_adds t turns old) in
-    record {
-      past = z.past;
-      taken = z.taken;
-      later = z.later;
-      messages = z.messages;
-      values = z.values;
-      turns =
-          z.turns;
-      queries = z.queries;
-      commands = z.commands;
-      numbers = z.numbers;
-      above = z.above;
-    })
+    adds_as p (turn_adds _ turns old) refl
 plays_adds reading script call item ends (Mark_query query begins) bound turns old new p =
     let t = Item call item ends (Mark_query query begins) bound in
     subst (Adds t 0 (turn_marks old.commands t) old) (sym p)
@@ -223,39 +97,11 @@ plays_adds reading script call item ends (Mark_query query begins) bound turns o
           λ k l h. h;
     })
 plays_adds reading script call item ends Set_state bound turns old new p =
-    let t = Item call item ends Set_state bound in
-    subst (Adds t 0 [] old) (sym p) (let z = (turn_adds t turns old) in
-    record {
-      past = z.past;
-      taken = z.taken;
-      later = z.later;
-      messages = z.messages;
-      values = z.values;
-      turns =
-          z.turns;
-      queries = z.queries;
-      commands = z.commands;
-      numbers = z.numbers;
-      above = z.above;
-    })
+    adds_as p (turn_adds _ turns old) refl
 
 pub takes_adds : (reading : Reading) (script : Script) (t : Turn) (turns : List Turn) (old new : Core)
     → TakesTurn reading script t turns old new → Adds t (commands_by t) (turn_marks old.commands t) old new
-takes_adds reading script (Refused call) turns old new p = subst (Adds (Refused call) 0 [] old) (sym p) (let z =
-    (turn_adds (Refused call) turns old) in
-    record {
-      past = z.past;
-      taken = z.taken;
-      later = z.later;
-      messages = z.messages;
-      values = z.values;
-      turns =
-          z.turns;
-      queries = z.queries;
-      commands = z.commands;
-      numbers = z.numbers;
-      above = z.above;
-    })
+takes_adds reading script (Refused call) turns old new p = adds_as p (turn_adds (Refused call) turns old) refl
 takes_adds reading script (Passed call) turns old new p = subst (Adds (Passed call) 0 [] old) (sym p)
     (turn_adds (Passed call) turns old)
 takes_adds reading script (Flushed call) turns old new p = subst (Adds (Flushed call) 0 [] old) (sym p)
@@ -264,19 +110,6 @@ takes_adds reading script (Asked call ask used may_pend) turns old new (inl h) =
     let t = Asked call ask used may_pend in subst (Adds t 0 [] old) (sym h.1)
     (asked_adds script call ask used old (with_turn t turns old) t (turn_adds t turns old))
 takes_adds reading script (Asked call ask used may_pend) turns old new (inr h) =
-    let t = Asked call ask used may_pend in subst (Adds t 0 [] old) (sym h.2) (let z = (turn_adds t turns old) in
-    record {
-      past = z.past;
-      taken = z.taken;
-      later = z.later;
-      messages = z.messages;
-      values = z.values;
-      turns =
-          z.turns;
-      queries = z.queries;
-      commands = z.commands;
-      numbers = z.numbers;
-      above = z.above;
-    })
+    let t = Asked call ask used may_pend in adds_as h.2 (turn_adds t turns old) refl
 takes_adds reading script (Item call item ends play bound) turns old new p =
     plays_adds reading script call item ends play bound turns old new p
