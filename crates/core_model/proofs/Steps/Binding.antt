@@ -1,6 +1,6 @@
 -- An item that binds ranges and runs nothing: what changes bindings, and what a query's predicate skips.
 use Rattle.std.proofs.Common.{◌≡◌, ℕ, ◌<◌, ◌≤◌, Bool, true, false, cond, not, ◌&&◌, ◌||◌, ◌==◌, List, [], ◌∷◌, ◌++◌}
-use Rattle.std.proofs.Common.{map, refl, sym, ap, ◌∙◌, subst, inl, inr, ◌⊎◌, Option, Some, None, arith, append_assoc}
+use Rattle.std.proofs.Common.{map, refl, sym, ap, ◌∙◌, subst, inl, inr, ◌⊎◌, Option, Some, None, arith}
 use Rattle.std.specs.List.{AllByRecursion}
 use Rattle.std.proofs.lemmas.Bool.{cases_Bool, or_cases, eqb-true, eq-eqb}
 use Rattle.std.proofs.lemmas.List.Folds.{list_any-append}
@@ -24,11 +24,11 @@ use Rattle.core_model.specs.Stands.{Stands}
 use Rattle.core_model.specs.Worlds.{empty, run_world}
 use Rattle.core_model.specs.Lawful.{Fits, IsLawful}
 use Rattle.core_model.specs.Invariant.{Allows, IsSince, IsLive, KnownIn, Numbered, IsShaped, BindsUses, IsFilled}
-use Rattle.core_model.specs.Invariant.{turns_of, handed, NamesStaging, WritesElsewhere, Totals, Good}
+use Rattle.core_model.specs.Invariant.{NamesStaging, WritesElsewhere, Totals, Good}
 use Rattle.core_model.proofs.Steps.ChunkMoves.{known_more}
 use Rattle.core_model.proofs.Steps.Handing.{Elsewhere}
 use Rattle.core_model.proofs.Steps.Turning.{all_last, pairs_last, numbered_last, flat_last, segments_handed}
-use Rattle.core_model.proofs.Steps.Turning.{in_order-append, cut_on}
+use Rattle.core_model.proofs.Steps.Turning.{in_order-append, here, behind_turn, cut_on}
 
 -- Owners as ranges are bound ----------------------------------------------------------------------------------------
 
@@ -256,9 +256,6 @@ module _ (meaning : Meaning) (reading : Reading) (script : Script) (lawful : IsL
   binding_all P f h = subst (AllByRecursion P) (sym (segments_handed binding))
       (all_last P front old.open_chunk binding.open_chunk f (subst (AllByRecursion P) (segments_handed old) h))
 
-  place : Good meaning reading script old → script.turns ≡ old.past ++ turn ∷ turns
-  place g = sym (ap (λ l. old.past ++ l) (sym e) ∙ g.sound.position)
-
   -- a range that is bound is of a live buffer, so the buffer of this block
   same_buffer : Good meaning reading script old → (r b : ℕ) → script.is_staging r ≡ true → old.blocks r ≡ Some b
       → (q : Range) → Fits meaning script old.past q
@@ -277,7 +274,8 @@ module _ (meaning : Meaning) (reading : Reading) (script : Script) (lawful : IsL
         | inr n ↦ staging_added script old.blocks bound old.open_chunk.staging b
             (all_map (λ q. Fits meaning script old.past q × (q.from < q.to)) (λ q. block_of old.blocks q.block ≡ b
             → script.is_staging q.block ≡ true) (λ q f at. same_buffer g r b st is q f.0 at) bound
-            (lawful.fits old.past call item ends Set_state bound turns (place g)))
+            (lawful.fits old.past call item ends Set_state bound turns
+            (here meaning reading script old turn turns e g)))
             (sym (list_any-append (λ r. r.block == b) old.open_chunk.bound blocks_bound
             ∙ ap (λ c. c || has_block b blocks_bound) n) ∙ h)
       ]
@@ -290,10 +288,8 @@ module _ (meaning : Meaning) (reading : Reading) (script : Script) (lawful : IsL
       in_order-append meaning script old.past (turn ∷ []) at_start in
       record {
         sound = record {
-          position = append_assoc old.past (turn ∷ []) turns ∙ sym (place g);
-          cut = s.cut ∙ ap (λ l. turns_of (handed old) ++ l)
-              (ap (cut script old.open_chunk.turns) e ∙ cut_on script old.open_chunk.turns turn turns
-              (subst (λ l. is_due script old.open_chunk.turns l ≡ false) e due));
+          position = behind_turn meaning reading script old turn turns e g;
+          cut = cut_on meaning reading script old turn turns e g due;
           sizes = s.sizes;
           bounded = s.bounded;
           grows = s.grows;

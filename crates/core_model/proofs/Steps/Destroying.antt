@@ -1,6 +1,6 @@
 -- A buffer is destroyed: its block is retired by the open chunk.
 use Rattle.std.proofs.Common.{◌≡◌, ℕ, suc, ◌≤◌, Bool, true, false, cond, ◌||◌, ◌==◌, List, [], ◌∷◌, ◌++◌, refl, sym}
-use Rattle.std.proofs.Common.{ap, ◌∙◌, subst, inl, inr, Option, Some, None, append_assoc}
+use Rattle.std.proofs.Common.{ap, ◌∙◌, subst, inl, inr, Option, Some, None}
 use Rattle.std.specs.List.{AllByRecursion}
 use Rattle.std.proofs.lemmas.Bool.{both_ways, cases_Bool, eqb-true, eq-eqb}
 use Rattle.dx_types.specs.declared.range.Range.{Range}
@@ -21,11 +21,11 @@ use Rattle.core_model.specs.AppActs.{TakesTurn}
 use Rattle.core_model.specs.Stands.{Stands}
 use Rattle.core_model.specs.Worlds.{empty, run_world}
 use Rattle.core_model.specs.Invariant.{Allows, IsSince, IsLive, Known, KnownIn, Numbered, IsShaped, BindsUses}
-use Rattle.core_model.specs.Invariant.{IsFilled, turns_of, handed, NamesStaging, WritesElsewhere, Totals, Good}
+use Rattle.core_model.specs.Invariant.{IsFilled, NamesStaging, WritesElsewhere, Totals, Good}
 use Rattle.core_model.proofs.Steps.Handing.{Elsewhere}
 use Rattle.core_model.proofs.Steps.Binding.{fewer_named}
 use Rattle.core_model.proofs.Steps.Turning.{pairs_last, numbered_last, flat_last, used_last, segments_handed}
-use Rattle.core_model.proofs.Steps.Turning.{in_order-append, cut_on}
+use Rattle.core_model.proofs.Steps.Turning.{in_order-append, behind_turn, cut_on}
 
 -- Owners as the open chunk retires a block --------------------------------------------------------------------------
 
@@ -156,9 +156,6 @@ module _ (meaning : Meaning) (reading : Reading) (script : Script) (old : Core) 
       changed [] h = (g h.0, tt)
       changed (x ∷ xs) h = (f x h.0, changed xs h.1)
 
-  place : Good meaning reading script old → script.turns ≡ old.past ++ turn ∷ turns
-  place g = sym (ap (λ l. old.past ++ l) (sym e) ∙ g.sound.position)
-
   -- the block of another buffer is another
   other_block : Good meaning reading script old → (r b : ℕ) → old.blocks r ≡ Some b → (r == buffer) ≡ false
       → is_block (old.blocks buffer) b ≡ false
@@ -200,10 +197,8 @@ module _ (meaning : Meaning) (reading : Reading) (script : Script) (old : Core) 
       ≡ turn_in_order meaning script turn before = in_order-append meaning script old.past (turn ∷ []) at_start in
       record {
         sound = record {
-          position = append_assoc old.past (turn ∷ []) turns ∙ sym (place g);
-          cut = s.cut ∙ ap (λ l. turns_of (handed old) ++ l)
-              (ap (cut script old.open_chunk.turns) e ∙ cut_on script old.open_chunk.turns turn turns
-              (subst (λ l. is_due script old.open_chunk.turns l ≡ false) e due));
+          position = behind_turn meaning reading script old turn turns e g;
+          cut = cut_on meaning reading script old turn turns e g due;
           sizes = s.sizes;
           bounded = s.bounded;
           grows = s.grows;

@@ -3,11 +3,12 @@
 use Rattle.std.proofs.Common.{◌≡◌, ℕ, suc, ◌+◌, ◌≤◌, true, List, [], ◌∷◌, ◌++◌, length, refl, sym, ap, ◌∙◌, subst}
 use Rattle.std.proofs.Common.{Some, arith, append-nil, length-append}
 use Rattle.std.specs.List.{AllByRecursion}
+use Rattle.std.proofs.lemmas.Bool.{both_ways}
 use Rattle.dx_types.specs.declared.range.Range.{Range}
 use Rattle.vk_types.specs.declared.message.Placed.{Placed}
 use Rattle.vk_types.specs.declared.message.QueryMark.{QueryMark}
 use Rattle.vk_types.specs.declared.op.VkOp.{VkOp}
-use Rattle.vk_types.specs.Effects.{Meaning}
+use Rattle.vk_types.specs.Effects.{Meaning, Act, is_host}
 use Rattle.vk_types.specs.Entries.{Entry, EntriesCovered}
 use Rattle.base_lemmas.proofs.Lists.{all_front, all_back, all_append, all_map, pairs_front, pairs_append, all_across}
 use Rattle.core_model.specs.Script.{Turn, Script}
@@ -15,7 +16,7 @@ use Rattle.core_model.specs.Chunking.{chunks, cut}
 use Rattle.core_model.specs.CoreState.{Segment, entries, flat, Owner, Core, segments, later, listed, taken_count}
 use Rattle.core_model.specs.CoreState.{finished_count, handed_count, open_number}
 use Rattle.core_model.specs.Readings.{Reading}
-use Rattle.core_model.specs.Adding.{has_block}
+use Rattle.core_model.specs.Adding.{has_block, new_entry}
 use Rattle.core_model.specs.Listed.{IsListed, IsCounted}
 use Rattle.core_model.specs.Invariant.{Allows, IsSince, KnownIn, Numbered, IsShaped, BindsUses, IsFilled, CopiesRight}
 use Rattle.core_model.specs.Invariant.{NamesStaging, WritesElsewhere, listed_acts, turns_of, handed, Sound}
@@ -25,6 +26,30 @@ use Rattle.core_model.proofs.Steps.Handing.{Elsewhere}
 use Rattle.core_model.proofs.Steps.Turning.{segments_handed, used_last}
 use Rattle.core_model.proofs.Steps.Binding.{used_more_last, has_more}
 use Rattle.core_model.proofs.Steps.Destroying.{known_kept}
+
+-- what is known of an entry stays known as the host acts once more
+pub known_still : (core : Core) (x : Entry) → KnownIn core x
+    → KnownIn (record core { host_acts = suc core.host_acts }) x
+known_still core x k = record {
+  in_chunk = k.in_chunk;
+  fenced = k.fenced;
+  counted = λ h. let l = k.counted h in omega (arith, l);
+  below = k.below;
+  recent = k.recent;
+  owned = k.owned;
+}
+
+-- and so it is of the entry of that act
+pub known_act : (core : Core) (a : Act) → is_host a ≡ true → core.fence ≤ finished_count core
+    → KnownIn (record core { host_acts = suc core.host_acts }) (new_entry core a)
+known_act core a host finished = record {
+  in_chunk = omega arith;
+  fenced = λ h. finished;
+  counted = λ h. omega arith;
+  below = λ device. absurd (both_ways (is_host a) device host);
+  recent = λ device. absurd (both_ways (is_host a) device host);
+  owned = λ device. absurd (both_ways (is_host a) device host);
+}
 
 -- the chunks that were handed over
 abbrev pub before_open : Core → List Segment

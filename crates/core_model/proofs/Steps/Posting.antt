@@ -34,6 +34,7 @@ use Rattle.core_model.proofs.Steps.Segments.{segments_later}
 use Rattle.core_model.proofs.Steps.ChunkMoves.{known_more}
 use Rattle.core_model.proofs.Steps.QueueHeads.{one_more}
 use Rattle.core_model.proofs.Steps.Handing.{Elsewhere}
+use Rattle.core_model.proofs.Steps.Turning.{told_good}
 use Rattle.core_model.proofs.Steps.Completing.{left_alone, run_entries-append, Unused, segments_leave, none_needed}
 use Rattle.core_model.proofs.Steps.Completing.{needed_front, filled_commands}
 
@@ -282,37 +283,13 @@ module _ (meaning : Meaning) (reading : Reading) (script : Script) (old : Core) 
 pub fence_good : (meaning : Meaning) (reading : Reading) (script : Script) (old : Core) (k : ℕ)
     → k ≤ finished_count old → Good meaning reading script old
     → Good meaning reading script (record old { listing = old.listing ++ op.Fence k ∷ []; fence = max old.fence k })
-fence_good meaning reading script old k l g = let s = g.sound in record {
-  sound = record {
-    position = s.position;
-    cut = s.cut;
-    sizes = s.sizes;
-    bounded = s.bounded;
-    grows = fence_listed old.is_staging old.listing old.open_chunk.ops old.contents old.recent
-        old.open_chunk.commands (open_number old) (listed_acts old) s.grows k (omega (arith, l));
-    counted = fence_counted k old.listing old.open_chunk.ops old.fence old.host_acts old.epoch s.counted;
-    fence = let f = s.fence in omega (arith, f, l);
-    covered = s.covered;
-    known = s.known;
-    since = s.since;
-    numbered = s.numbered;
-    shaped = s.shaped;
-    binds = s.binds;
-    filled = s.filled;
-    within = s.within;
-    device = s.device;
-    whole = s.whole;
-    order = s.order;
-    snaps = s.snaps;
-    copies = s.copies;
-    names = s.names;
-    elsewhere = s.elsewhere;
-  };
-  stands = g.stands;
-  live = g.live;
-  totals = g.totals;
-  replies = g.replies;
-}
+fence_good meaning reading script old k l g =
+    let s = g.sound in
+    told_good meaning reading script old (old.listing ++ op.Fence k ∷ []) (max old.fence k) old.ended old.replies
+    (fence_listed old.is_staging old.listing old.open_chunk.ops old.contents old.recent old.open_chunk.commands
+    (open_number old) (listed_acts old) s.grows k (omega (arith, l)))
+    (fence_counted k old.listing old.open_chunk.ops old.fence old.host_acts old.epoch s.counted)
+    (let f = s.fence in omega (arith, f, l)) g.replies g
 
 takes_good : (meaning : Meaning) (reading : Reading) (script : Script) (n : ℕ) (old mid : Core)
     → TakesPosts n old mid → Good meaning reading script old → Good meaning reading script mid

@@ -35,7 +35,8 @@ use Rattle.core_model.proofs.Steps.Posting.{used_front}
 use Rattle.core_model.proofs.Steps.Completing.{none_bound, run_entries-append}
 use Rattle.core_model.proofs.Steps.Turning.{segments_handed, used_last, said_good}
 use Rattle.core_model.proofs.Listing.MoreListed.{read_listed, read_counted}
-use Rattle.core_model.proofs.Steps.Opened.{before_open, opened_entries, Opened, opened, opened_turn}
+use Rattle.core_model.proofs.Steps.Opened.{known_still, known_act, before_open, opened_entries, Opened, opened}
+use Rattle.core_model.proofs.Steps.Opened.{opened_turn}
 use Rattle.core_model.proofs.Steps.Taking.{left_by, Meets, met, taken_good}
 use Rattle.core_model.proofs.Blocks.BoundRanges.{unconcerned, quiet_beside}
 use Rattle.core_model.proofs.Runs.TurnsKeepAll.{turn_traced, pending_kept}
@@ -127,26 +128,6 @@ module _ (meaning : Meaning) (script : Script) (core : Core) (o : Opened meaning
       just true e = refl
       just false e = absurd (cc e)
 
-  known_still : (x : Entry) → KnownIn core x → KnownIn now x
-  known_still x k = record {
-    in_chunk = k.in_chunk;
-    fenced = k.fenced;
-    counted = λ h. let l = k.counted h in omega (arith, l);
-    below = k.below;
-    recent = k.recent;
-    owned = k.owned;
-  }
-
-  known_new : KnownIn now read
-  known_new = record {
-    in_chunk = omega arith;
-    fenced = λ h. o.fence;
-    counted = λ h. omega arith;
-    below = λ h. absurd (cc h);
-    recent = λ h. absurd (cc h);
-    owned = λ h. absurd (cc h);
-  }
-
   opened_read : Opened meaning script now
   opened_read = record {
     grows =
@@ -169,12 +150,12 @@ module _ (meaning : Meaning) (script : Script) (core : Core) (o : Opened meaning
         core.open_chunk.reads
         (all_both (KnownIn core) (λ x. is_host x.act ≡ true) core.open_chunk.reads
         (subst (AllByRecursion (KnownIn core)) open_is o.known_open) shaped)))));
-    known = all_map (KnownIn core) (KnownIn now) known_still (flat (before_open core)) o.known;
+    known = all_map (KnownIn core) (KnownIn now) (known_still core) (flat (before_open core)) o.known;
     known_open =
         subst (AllByRecursion (KnownIn now)) (sym open_more)
         (all_append (KnownIn now) (entries core.open_chunk) (read ∷ [])
-        (all_map (KnownIn core) (KnownIn now) known_still (entries core.open_chunk) o.known_open)
-        (known_new, tt));
+        (all_map (KnownIn core) (KnownIn now) (known_still core) (entries core.open_chunk) o.known_open)
+        (known_act core (Host_read r) refl o.fence, tt));
     since = o.since;
     numbered = subst (AllByRecursion (λ x. x.chunk ≡ open_number core)) (sym open_more)
         (all_append (λ x. x.chunk ≡ open_number core) (entries core.open_chunk) (read ∷ []) o.numbered (refl, tt));

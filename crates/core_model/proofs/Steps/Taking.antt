@@ -1,5 +1,5 @@
 -- A turn with an item is taken: what its additions to the open chunk owe, and what they leave.
-use Rattle.std.proofs.Common.{◌≡◌, ℕ, false, List, [], ◌∷◌, ◌++◌, sym, ap, ◌∙◌, subst, Some, append_assoc}
+use Rattle.std.proofs.Common.{◌≡◌, ℕ, false, List, [], ◌∷◌, ◌++◌, sym, ap, ◌∙◌, subst, Some}
 use Rattle.std.specs.List.{AllByRecursion}
 use Rattle.vk_types.specs.Effects.{Meaning}
 use Rattle.core_model.specs.Script.{Turn, Script, InOrder, at_start, turn_in_order, in_order}
@@ -10,7 +10,7 @@ use Rattle.core_model.specs.Stands.{Stands}
 use Rattle.core_model.specs.Worlds.{World, empty, run_world}
 use Rattle.core_model.specs.Invariant.{IsLive, turns_of, handed, Totals, IsRight, Good}
 use Rattle.core_model.proofs.Listing.Worlds.{world_memory}
-use Rattle.core_model.proofs.Steps.Turning.{in_order-append, cut_on}
+use Rattle.core_model.proofs.Steps.Turning.{in_order-append, behind_turn, cut_on}
 use Rattle.core_model.proofs.Steps.Opened.{opened_entries, listed_open, Opened, with_parts, closed}
 
 -- what all entries leave, in the listing's order
@@ -39,10 +39,6 @@ module _ (meaning : Meaning) (reading : Reading) (script : Script) where
       (due : is_due script old.open_chunk.turns old.future ≡ false)
       (past : new.past ≡ old.past ++ t ∷ []) (future : new.future ≡ turns)
       (taken : new.open_chunk.turns ≡ old.open_chunk.turns ++ t ∷ []) (said : new.replies ≡ old.replies) where
-    -- the place of the turn in the script
-    pub at_turn : Good meaning reading script old → script.turns ≡ old.past ++ t ∷ turns
-    at_turn g = sym (ap (λ l. old.past ++ l) (sym e) ∙ g.sound.position)
-
     abbrev now : Core
     now = with_parts old new
 
@@ -57,12 +53,10 @@ module _ (meaning : Meaning) (reading : Reading) (script : Script) where
         record {
           sound = closed meaning reading script old new
               (ap (λ l. l ++ new.future) past ∙ ap (λ l. (old.past ++ t ∷ []) ++ l) future
-              ∙ append_assoc old.past (t ∷ []) turns ∙ sym (at_turn g))
-              (g.sound.cut
+              ∙ behind_turn meaning reading script old t turns e g)
+              (cut_on meaning reading script old t turns e g due
               ∙ ap (λ l. turns_of (handed old) ++ l)
-              (ap (cut script old.open_chunk.turns) e ∙ cut_on script old.open_chunk.turns t turns
-              (subst (λ l. is_due script old.open_chunk.turns l ≡ false) e due)
-              ∙ ap (cut script (old.open_chunk.turns ++ t ∷ [])) (sym future)
+              (ap (cut script (old.open_chunk.turns ++ t ∷ [])) (sym future)
               ∙ ap (λ l. cut script l new.future) (sym taken)))
               g.sound o;
           stands =

@@ -1,13 +1,14 @@
 -- App goes past turns that add nothing to the open chunk: refused and passed calls, flushes, calls that are answered
 -- as pending; and the end.
-use Rattle.std.proofs.Common.{◌≡◌, ℕ, suc, ◌<◌, Bool, true, false, cond, ◌||◌, nat_le, List, [], ◌∷◌, ◌++◌, refl, sym}
-use Rattle.std.proofs.Common.{ap, ◌∙◌, subst, inl, inr, Option, Some, None, append_assoc}
+use Rattle.std.proofs.Common.{◌≡◌, ℕ, suc, ◌<◌, Bool, true, false, cond, ◌||◌, ◌≤◌, nat_le, List, [], ◌∷◌, ◌++◌, refl}
+use Rattle.std.proofs.Common.{sym, ap, ◌∙◌, subst, inl, inr, Option, Some, None, append_assoc}
 use Rattle.std.specs.List.{AllByRecursion}
 use Rattle.std.proofs.lemmas.Bool.{both_ways}
 use Rattle.std.proofs.lemmas.Bool.Decides.{leb_tells}
 use Rattle.dx_types.specs.declared.range.Range.{Range}
 use Rattle.vk_types.specs.declared.message.Placed.{Placed}
 use Rattle.vk_types.specs.declared.message.QueryMark.{QueryMark}
+use Rattle.vk_types.specs.declared.op.VkOp.{VkOp}
 use Rattle.vk_types.specs.declared.op.VkOp.TheVariants as op
 use Rattle.base_lemmas.specs.Lists.{Pairwise}
 use Rattle.vk_types.specs.Memory.{zeros}
@@ -16,15 +17,16 @@ use Rattle.vk_types.specs.Entries.{EntriesCovered, run_entries}
 use Rattle.base_lemmas.proofs.Lists.{all_append}
 use Rattle.core_model.specs.Script.{Ask, Constant, Turn, Refused, Passed, Flushed, Asked, Item, Create_shader}
 use Rattle.core_model.specs.Script.{Mark_query, is_plain, Script, InOrder, at_start, turn_in_order, in_order}
-use Rattle.core_model.specs.Chunking.{is_due, cut}
+use Rattle.core_model.specs.Chunking.{is_due, chunks, cut}
 use Rattle.core_model.specs.CoreState.{Segment, entries, flat, Core, segments, later, listed, done, open_number, Said}
-use Rattle.core_model.specs.CoreState.{Value_said, Still_said, Refused_said, End_said}
+use Rattle.core_model.specs.CoreState.{Value_said, Still_said, Refused_said, End_said, finished_count}
 use Rattle.core_model.specs.Readings.{Reading}
 use Rattle.core_model.specs.Adding.{has_block, with_turn, with_reply, placed_at}
 use Rattle.core_model.specs.AppActs.{is_finished, used_or_zero, TakesTurn}
 use Rattle.core_model.specs.OtherParts.{used_in}
 use Rattle.core_model.specs.Stands.{Stands}
 use Rattle.core_model.specs.Worlds.{empty, run_world}
+use Rattle.core_model.specs.Listed.{IsListed, IsCounted}
 use Rattle.core_model.specs.Invariant.{KnownIn, Numbered, IsShaped, BindsUses, IsFilled, listed_acts, turns_of}
 use Rattle.core_model.specs.Invariant.{handed, NamesStaging, WritesElsewhere, Totals, IsAsked, IsRight, Good}
 use Rattle.core_model.proofs.Listing.CoreListing.{pipeline_listed, pipeline_counted}
@@ -69,11 +71,25 @@ pub in_order-append : (meaning : Meaning) (script : Script) (xs ys : List Turn) 
 in_order-append meaning script [] ys s = refl
 in_order-append meaning script (x ∷ xs) ys s = in_order-append meaning script xs ys (turn_in_order meaning script x s)
 
--- a turn that does not end the chunk joins it
-pub cut_on : (script : Script) (turns : List Turn) (t : Turn) (future : List Turn)
-    → is_due script turns (t ∷ future) ≡ false → cut script turns (t ∷ future) ≡ cut script (turns ++ t ∷ []) future
-cut_on script turns t future h =
-    ap (λ d. cond d (turns ∷ cut script (t ∷ []) future) (cut script (turns ++ t ∷ []) future)) h
+-- App goes past a turn
+module _ (meaning : Meaning) (reading : Reading) (script : Script) (old : Core) (t : Turn) (turns : List Turn)
+    (e : old.future ≡ t ∷ turns) (g : Good meaning reading script old) where
+  -- the place of the turn in the script
+  pub here : script.turns ≡ old.past ++ t ∷ turns
+  here = sym (ap (λ l. old.past ++ l) (sym e) ∙ g.sound.position)
+
+  -- the position behind it
+  pub behind_turn : (old.past ++ t ∷ []) ++ turns ≡ script.turns
+  behind_turn = append_assoc old.past (t ∷ []) turns ∙ sym here
+
+  -- a turn that does not end the chunk joins it
+  pub cut_on : is_due script old.open_chunk.turns old.future ≡ false
+      → chunks script ≡ turns_of (handed old) ++ cut script (old.open_chunk.turns ++ t ∷ []) turns
+  cut_on due = g.sound.cut ∙ ap (λ l. turns_of (handed old) ++ l)
+      (ap (cut script old.open_chunk.turns) e
+      ∙ ap (λ d. cond d (old.open_chunk.turns ∷ cut script (t ∷ []) turns)
+      (cut script (old.open_chunk.turns ++ t ∷ []) turns))
+      (subst (λ l. is_due script old.open_chunk.turns l ≡ false) e due))
 
 -- the in-order state differs in nothing that a live buffer or a count of invocations shows
 pub record SameShown (before after : InOrder) : Type 0 where
@@ -113,10 +129,6 @@ module _ (meaning : Meaning) (reading : Reading) (script : Script) (old : Core) 
   turned_all P f h = subst (AllByRecursion P) (sym (segments_handed turned))
       (all_last P front old.open_chunk turned.open_chunk f (subst (AllByRecursion P) (segments_handed old) h))
 
-  -- the place of the turn in the script
-  pub here : Good meaning reading script old → script.turns ≡ old.past ++ t ∷ turns
-  here g = sym (ap (λ l. old.past ++ l) (sym e) ∙ g.sound.position)
-
   pub turned_good : ((s : InOrder) → SameShown s (turn_in_order meaning script t s))
       → Good meaning reading script old → Good meaning reading script turned
   turned_good quiet g =
@@ -126,10 +138,8 @@ module _ (meaning : Meaning) (reading : Reading) (script : Script) (old : Core) 
       in_order-append meaning script old.past (t ∷ []) at_start in
       record {
         sound = record {
-          position = append_assoc old.past (t ∷ []) turns ∙ sym (here g);
-          cut = s.cut ∙ ap (λ l. turns_of (handed old) ++ l) (ap (cut script old.open_chunk.turns) e
-              ∙ cut_on script old.open_chunk.turns t turns (subst
-              (λ l. is_due script old.open_chunk.turns l ≡ false) e due));
+          position = behind_turn meaning reading script old t turns e g;
+          cut = cut_on meaning reading script old t turns e g due;
           sizes = s.sizes;
           bounded = s.bounded;
           grows = s.grows;
@@ -174,76 +184,72 @@ module _ (meaning : Meaning) (reading : Reading) (script : Script) (old : Core) 
 pub shown_same : (s : InOrder) → SameShown s s
 shown_same s = record { live = refl; bytes = refl; total = refl }
 
+-- a core is good with another listing, fence, end and replies, where these are right
+pub told_good : (meaning : Meaning) (reading : Reading) (script : Script) (old : Core) (listing : List VkOp)
+    (fence : ℕ) (ended : Bool) (replies : List Said)
+    → IsListed old.is_staging listing old.open_chunk.ops old.contents old.recent old.open_chunk.commands
+    (open_number old) (listed_acts old)
+    → IsCounted listing old.open_chunk.ops fence old.host_acts old.epoch → fence ≤ finished_count old
+    → AllByRecursion (IsRight meaning script) replies → Good meaning reading script old
+    → Good meaning reading script (record old {
+      listing = listing;
+      fence = fence;
+      ended = ended;
+      replies = replies;
+    })
+told_good meaning reading script old listing fence ended replies grows counted finished right g =
+    let s = g.sound in
+    record {
+      sound = record {
+        position = s.position;
+        cut = s.cut;
+        sizes = s.sizes;
+        bounded = s.bounded;
+        grows = grows;
+        counted = counted;
+        fence = finished;
+        covered = s.covered;
+        known = s.known;
+        since = s.since;
+        numbered = s.numbered;
+        shaped = s.shaped;
+        binds = s.binds;
+        filled = s.filled;
+        within = s.within;
+        device = s.device;
+        whole = s.whole;
+        order = s.order;
+        snaps = s.snaps;
+        copies = s.copies;
+        names = s.names;
+        elsewhere = s.elsewhere;
+      };
+      stands = g.stands;
+      live = g.live;
+      totals = g.totals;
+      replies = right;
+    }
+
 -- a pipeline stands behind the listing
 pub pipeline_good : (meaning : Meaning) (reading : Reading) (script : Script) (old : Core) (call : ℕ)
     → Good meaning reading script old
     → Good meaning reading script (record old { listing = old.listing ++ op.Pipeline call ∷ [] })
-pipeline_good meaning reading script old call g = let s = g.sound in record {
-  sound = record {
-    position = s.position;
-    cut = s.cut;
-    sizes = s.sizes;
-    bounded = s.bounded;
-    grows = pipeline_listed old.is_staging old.listing old.open_chunk.ops old.contents old.recent
-        old.open_chunk.commands (open_number old) (listed_acts old) s.grows call;
-    counted = pipeline_counted call old.listing old.open_chunk.ops old.fence old.host_acts old.epoch s.counted;
-    fence = s.fence;
-    covered = s.covered;
-    known = s.known;
-    since = s.since;
-    numbered = s.numbered;
-    shaped = s.shaped;
-    binds = s.binds;
-    filled = s.filled;
-    within = s.within;
-    device = s.device;
-    whole = s.whole;
-    order = s.order;
-    snaps = s.snaps;
-    copies = s.copies;
-    names = s.names;
-    elsewhere = s.elsewhere;
-  };
-  stands = g.stands;
-  live = g.live;
-  totals = g.totals;
-  replies = g.replies;
-}
+pipeline_good meaning reading script old call g =
+    let s = g.sound in
+    told_good meaning reading script old (old.listing ++ op.Pipeline call ∷ []) old.fence old.ended old.replies
+    (pipeline_listed old.is_staging old.listing old.open_chunk.ops old.contents old.recent old.open_chunk.commands
+    (open_number old) (listed_acts old) s.grows call)
+    (pipeline_counted call old.listing old.open_chunk.ops old.fence old.host_acts old.epoch s.counted) s.fence
+    g.replies g
 
 -- A reply is given, and the run may end
 pub said_good : (meaning : Meaning) (reading : Reading) (script : Script) (core : Core) (ended : Bool) (said : Said)
     → IsRight meaning script said → Good meaning reading script core
     → Good meaning reading script (record core { ended = ended; replies = core.replies ++ said ∷ [] })
-said_good meaning reading script core ended said right g = let s = g.sound in record {
-  sound = record {
-    position = s.position;
-    cut = s.cut;
-    sizes = s.sizes;
-    bounded = s.bounded;
-    grows = s.grows;
-    counted = s.counted;
-    fence = s.fence;
-    covered = s.covered;
-    known = s.known;
-    since = s.since;
-    numbered = s.numbered;
-    shaped = s.shaped;
-    binds = s.binds;
-    filled = s.filled;
-    within = s.within;
-    device = s.device;
-    whole = s.whole;
-    order = s.order;
-    snaps = s.snaps;
-    copies = s.copies;
-    names = s.names;
-    elsewhere = s.elsewhere;
-  };
-  stands = g.stands;
-  live = g.live;
-  totals = g.totals;
-  replies = all_append (IsRight meaning script) core.replies (said ∷ []) g.replies (right, tt);
-}
+said_good meaning reading script core ended said right g =
+    let s = g.sound in
+    told_good meaning reading script core core.listing core.fence ended (core.replies ++ said ∷ []) s.grows s.counted
+    s.fence (all_append (IsRight meaning script) core.replies (said ∷ []) g.replies (right, tt)) g
 
 -- The acts ----------------------------------------------------------------------------------------------------------
 
@@ -255,9 +261,6 @@ module _ (meaning : Meaning) (reading : Reading) (script : Script) (old : Core) 
   bare_good t e quiet g = turned_good meaning reading script old t turns old.open_chunk.placed
       old.open_chunk.queries e due quiet g
 
-  place : (t : Turn) → old.future ≡ t ∷ turns → Good meaning reading script old → script.turns ≡ old.past ++ t ∷ turns
-  place t e g = here meaning reading script old t turns old.open_chunk.placed old.open_chunk.queries e due g
-
   -- a call is answered
   pub answered_good : (call : ℕ) (ask : Ask) (used : Option ℕ) (may_pend : Bool)
       → old.future ≡ Asked call ask used may_pend ∷ turns → (said : Said)
@@ -265,15 +268,17 @@ module _ (meaning : Meaning) (reading : Reading) (script : Script) (old : Core) 
       → Good meaning reading script (with_reply said (with_turn (Asked call ask used may_pend) turns old))
   answered_good call ask used may_pend e said right g =
       let t = Asked call ask used may_pend in
+      let place = here meaning reading script old t turns e g in
       said_good meaning reading script (with_turn t turns old) old.ended said
-      (right (record { front = old.past; may_pend = may_pend; back = turns; here = place t e g }))
+      (right (record { front = old.past; may_pend = may_pend; back = turns; here = place }))
       (bare_good t e shown_same g)
 
   refused_good : (call : ℕ) → old.future ≡ Refused call ∷ turns → Good meaning reading script old
       → Good meaning reading script (with_reply (Refused_said call) (with_turn (Refused call) turns old))
   refused_good call e g =
-      said_good meaning reading script (with_turn (Refused call) turns old) old.ended (Refused_said call)
-      (old.past, turns, place (Refused call) e g) (bare_good (Refused call) e shown_same g)
+      let t = Refused call in
+      said_good meaning reading script (with_turn t turns old) old.ended (Refused_said call)
+      (old.past, turns, here meaning reading script old t turns e g) (bare_good t e shown_same g)
 
   -- a call that is answered as pending has a use that is not finished
   still_good : (call : ℕ) (ask : Ask) (used : Option ℕ) (may_pend : Bool)

@@ -23,7 +23,7 @@ use Rattle.core_model.proofs.Listing.Worlds.{run_world_is, run_world-append, wor
 use Rattle.core_model.proofs.Steps.Turning.{used_last}
 use Rattle.core_model.proofs.Listing.MoreListed.{write_listed, write_counted}
 use Rattle.core_model.proofs.Steps.Handing.{Elsewhere}
-use Rattle.core_model.proofs.Steps.Opened.{before_open, opened_entries, Opened}
+use Rattle.core_model.proofs.Steps.Opened.{known_still, known_act, before_open, opened_entries, Opened}
 use Rattle.vk_types.specs.declared.op.VkOp.TheVariants as op
 
 -- the state with one host write more
@@ -152,26 +152,6 @@ module _ (meaning : Meaning) (script : Script) (core : Core) (o : Opened meaning
       ]
       ∙ ap (λ f. f b i) (world_memory meaning (opened_entries core) empty)
 
-  known_still : (y : Entry) → KnownIn core y → KnownIn written y
-  known_still y k = record {
-    in_chunk = k.in_chunk;
-    fenced = k.fenced;
-    counted = λ h. let l = k.counted h in omega (arith, l);
-    below = k.below;
-    recent = k.recent;
-    owned = k.owned;
-  }
-
-  known_new : KnownIn written entry
-  known_new = record {
-    in_chunk = omega arith;
-    fenced = λ h. o.fence;
-    counted = λ h. omega arith;
-    below = λ h. absurd (cc h);
-    recent = λ h. absurd (cc h);
-    owned = λ h. absurd (cc h);
-  }
-
   -- what holds of the entries of the open chunk and of the write holds of all now
   with_new : (P : Entry → Type 0) → AllByRecursion P (entries core.open_chunk) → P entry
       → AllByRecursion P (entries written.open_chunk)
@@ -206,9 +186,9 @@ module _ (meaning : Meaning) (script : Script) (core : Core) (o : Opened meaning
         o.known_open))))
         (all_map IsOpen (λ y. entries_conflict entry y ≡ true
         → entry_before entry y ≡ true) (λ y h c. after_new y h) core.open_chunk.commands commands_of));
-    known = all_map (KnownIn core) (KnownIn written) known_still (flat (before_open core)) o.known;
-    known_open = with_new (KnownIn written) (all_map (KnownIn core) (KnownIn written) known_still
-        (entries core.open_chunk) o.known_open) known_new;
+    known = all_map (KnownIn core) (KnownIn written) (known_still core) (flat (before_open core)) o.known;
+    known_open = with_new (KnownIn written) (all_map (KnownIn core) (KnownIn written) (known_still core)
+        (entries core.open_chunk) o.known_open) (known_act core (Host_write r bytes) refl o.fence);
     since = o.since;
     numbered = with_new (λ x. x.chunk ≡ open_number core) o.numbered refl;
     shaped = (
