@@ -1,3 +1,4 @@
+pub mod QuietPlays
 pub mod BufferSteps
 pub mod BufferMakers
 pub mod LiveBuffers

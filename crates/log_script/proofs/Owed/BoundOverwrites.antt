@@ -31,8 +31,8 @@ use Rattle.log_script.proofs.Owed.FittingStates.{StateFits}
 use Rattle.log_script.proofs.Owed.FittingLogs.{state_fits}
 use Rattle.log_script.proofs.Owed.ListRights.{CallRight, ListsRight, lists_right}
 use Rattle.log_script.proofs.Owed.BoundDeeds.{DoAll}
-use Rattle.log_script.proofs.Owed.BoundItems.{is_quiet, play_quiet, staged_quiet, CutAt, cut_list, HasFirst, StartOf}
-use Rattle.log_script.proofs.Owed.BoundItems.{start_of}
+use Rattle.log_script.proofs.Owed.QuietPlays.{is_quiet, play_quiet, staged_quiet}
+use Rattle.log_script.proofs.Owed.BoundItems.{CutAt, cut_list, HasFirst, StartOf, start_of}
 use Rattle.log_script.proofs.Owed.BoundSteps.{listed_right, listed_writes, listed_fit, has_first}
 use Rattle.log_script.proofs.Owed.BoundCuts.{no_turn, only, none_some}
 

@@ -6,19 +6,15 @@ use Rattle.std.specs.List.{list_any, AllByRecursion}
 use Rattle.std.proofs.lemmas.Bool.{not-false}
 use Rattle.dx_types.specs.declared.refusal.Refusal.{Refusal}
 use Rattle.dx_types.specs.declared.refusal.Refusal.TheVariants.{BadUsage}
-use Rattle.dx_types.specs.declared.range.Range.{Range}
 use Rattle.dx_types.specs.declared.shape.Shape.{Shape}
-use Rattle.vk_types.specs.declared.command.Groups.TheVariants as groups
-use Rattle.vk_types.specs.declared.command.Work.{Work}
-use Rattle.vk_types.specs.declared.command.Work.TheVariants as work
 use Rattle.call_log.specs.Call as calls
 use Rattle.call_log.specs.Call.{Call, Issued}
 use Rattle.base_lemmas.specs.IdMap.{get, insert, remove}
 use Rattle.d3d_model.specs.Check.{Check}
 use Rattle.d3d_model.specs.Resource.{Buffers, usage_from}
 use Rattle.d3d_model.specs.Binding as binding
-use Rattle.d3d_model.specs.Binding.{Bindings, BoundView, Predicate}
-use Rattle.d3d_model.specs.D3dState.{Objects, Numbered, bindings_of, bound_view, calls_of_list}
+use Rattle.d3d_model.specs.Binding.{Bindings}
+use Rattle.d3d_model.specs.D3dState.{Objects, Numbered, bindings_of, calls_of_list}
 use Rattle.d3d_model.specs.Past.{Past, Deed, then_done, makes}
 use Rattle.d3d_model.specs.Stream.{deeds, deeds_of_list, makings}
 use Rattle.d3d_model.specs.Verdict.{place_of, unused_buffer, unused_view, unused_shader, unused_query, known_list}
@@ -34,10 +30,10 @@ use Rattle.d3d_model.proofs.Sized.{same_buffers_all}
 use Rattle.core_model.specs.Script.{Play, Create, Discard, No_overwrite, Stage, Command, Destroy, Create_shader}
 use Rattle.core_model.specs.Script.{Mark_query, Set_state, Turn, Refused, Passed as Went, Flushed, Asked, Item}
 use Rattle.log_script.specs.Makers.{maker, bytes_from}
-use Rattle.log_script.specs.Plays.{skips, condition, predicated, staged, dispatch, clear, clears, copies, whole}
-use Rattle.log_script.specs.Plays.{counts_invocations, marks, maps, play_of}
+use Rattle.log_script.specs.Plays.{staged, maps, play_of}
 use Rattle.log_script.specs.Turns.{item_of, list_items, turns_by_place, turns_unless, turns_in, turns_of}
 use Rattle.log_script.specs.LogScript.{shape_by, shape_unless, shape_in, shape_made}
+use Rattle.log_script.proofs.Owed.QuietPlays.{is_quiet, staged_quiet, play_quiet}
 
 -- ---- turns that leave which buffers live
 
@@ -62,34 +58,16 @@ turn_keeps (Item call item ends play bound) = keeps_live play
 abbrev pub KeepLive : List Turn → Type 0
 KeepLive ts = AllByRecursion (λ t. turn_keeps t ≡ true) ts
 
-predicated_keeps : (past : Past) (p : Predicate) (w : Work) → keeps_live (predicated past p w) ≡ true
-predicated_keeps past p w =
-    elim (skips p) as (λ b. keeps_live (if b then Set_state else Command w (condition past p)) ≡ true)
-    [ true ↦ refl | false ↦ refl ]
-
-staged_keeps : (past : Past) (p : Predicate) (bytes : List ℕ) (target : Range)
-    → keeps_live (staged past p bytes target) ≡ true
-staged_keeps past p [] target = refl
-staged_keeps past p (b ∷ bs) target =
-    elim (skips p) as
-    (λ t. keeps_live (if t then Stage (b ∷ bs) None None else Stage (b ∷ bs) (Some target) (condition past p))
-    ≡ true) [ true ↦ refl | false ↦ refl ]
-
-clears_keeps : (past : Past) (p : Predicate) (v : Option BoundView) (v0 v1 v2 v3 : ℕ)
-    → keeps_live (clears past p v v0 v1 v2 v3) ≡ true
-clears_keeps past p None v0 v1 v2 v3 = refl
-clears_keeps past p (Some v) v0 v1 v2 v3 = predicated_keeps past p (clear past v.shape v0 v1 v2 v3)
-
-copies_keeps : (past : Past) (p : Predicate) (target target_offset source source_offset len : ℕ)
-    → keeps_live (copies past p target target_offset source source_offset len) ≡ true
-copies_keeps past p target target_offset source source_offset len =
-    let copy : Work = work.Copy (bytes_from past source source_offset len) (bytes_from past target target_offset len) in
-    elim (len == 0) as (λ b. keeps_live (if b then Set_state else predicated past p copy) ≡ true)
-    [ true ↦ refl | false ↦ predicated_keeps past p copy ]
-
-marks_keeps : (o : Objects) (query : ℕ) (begins : Bool) → keeps_live (marks o query begins) ≡ true
-marks_keeps o query begins = elim (counts_invocations (get o.queries query)) as
-    (λ b. keeps_live (if b then Mark_query query begins else Set_state) ≡ true) [ true ↦ refl | false ↦ refl ]
+quiet_keeps : (play : Play) → is_quiet play ≡ true → keeps_live play ≡ true
+quiet_keeps (Create buffer bytes) e = absurd cc
+quiet_keeps (Discard buffer from bytes) e = refl
+quiet_keeps (No_overwrite buffer from bytes) e = refl
+quiet_keeps (Stage bytes target skip) e = refl
+quiet_keeps (Command w skip) e = refl
+quiet_keeps (Destroy buffer) e = absurd cc
+quiet_keeps Create_shader e = refl
+quiet_keeps (Mark_query query begins) e = refl
+quiet_keeps Set_state e = refl
 
 maps_keeps : (past : Past) (res mode offset : ℕ) (bytes : List ℕ) → keeps_live (maps past res mode offset bytes) ≡ true
 maps_keeps past res mode offset bytes =
@@ -101,25 +79,14 @@ maps_keeps past res mode offset bytes =
       | false ↦ elim (mode == 1) as
           (λ b. keeps_live (if b then No_overwrite (maker past res) offset bytes else stages) ≡ true) [
             | true ↦ refl
-            | false ↦ staged_keeps past binding.Never bytes (bytes_from past res offset (length bytes))
+            | false ↦ quiet_keeps stages
+                (staged_quiet past binding.Never bytes (bytes_from past res offset (length bytes)))
           ]
     ]
 
 play_keeps : (past : Past) (o : Objects) (b : Bindings) (c : Call) → keeps_live (play_of past o b c) ≡ true
-play_keeps past o b (calls.Dispatch x y z) = predicated_keeps past b.predicate (dispatch past o b (groups.Direct x y z))
-play_keeps past o b (calls.DispatchIndirect res offset) = predicated_keeps past b.predicate
-    (dispatch past o b (groups.Indirect (bytes_from past res offset 12)))
-play_keeps past o b (calls.CopyRegion target target_offset source source_offset len) =
-    copies_keeps past b.predicate target target_offset source source_offset len
-play_keeps past o b (calls.Copy target source) = predicated_keeps past b.predicate
-    (work.Copy (whole past o source) (whole past o target))
-play_keeps past o b (calls.Update res offset bytes) = staged_keeps past b.predicate bytes
-    (bytes_from past res offset (length bytes))
-play_keeps past o b (calls.ClearUav view v0 v1 v2 v3) = clears_keeps past b.predicate (bound_view o view) v0 v1 v2 v3
-play_keeps past o b (calls.Begin query) = marks_keeps o query true
-play_keeps past o b (calls.EndQuery query) = marks_keeps o query false
 play_keeps past o b (calls.MapWrite res mode offset bytes) = maps_keeps past res mode offset bytes
-play_keeps past o b _ = refl
+play_keeps past o b c = quiet_keeps (play_of past o b c) (play_quiet past o b c refl)
 
 list_keeps : (n : ℕ) (past : Past) (o : Objects) (cs : List Numbered) → KeepLive (list_items n past o cs)
 list_keeps n past o [] = (refl, tt)
