@@ -1,13 +1,16 @@
 -- The ready command of a number is one, by its place.
-use Rattle.std.proofs.Common.{◌≡◌, ℕ, List, Option, Some, sym, ap, subst, ◌∙◌}
-use Rattle.std.specs.Prelude.{slice_get}
+use Rattle.std.proofs.Common.{◌≡◌, ℕ, Bool, List, Option, Some, None, refl, sym, ap, subst, ◌∙◌}
+use Rattle.std.specs.Prelude.{is_some, slice_get}
 use Rattle.vk_types.specs.declared.command.Command as c
+use Rattle.vk_types.specs.declared.command.Work.{Work}
+use Rattle.vk_types.specs.declared.command.Work.TheVariants as work
 use Rattle.device_memory.specs.Held.{Held}
-use Rattle.device_memory.specs.Runs.{CanRun}
+use Rattle.device_memory.specs.Ranges.{CanSkip}
+use Rattle.device_memory.specs.Runs.{CanRun, CanWork}
 use Rattle.command_queue.specs.declared.queue.Listed.{Listed}
 use Rattle.command_queue.specs.Readiness.{ready_places, step_command}
-use Rattle.vk_device.specs.Running.{CanRunReady, IsReady}
-use Rattle.vk_device.specs.State.{State}
+use Rattle.vk_device.specs.Running.{CanRunReady, CanWorkIf, IsDefinedIf, IsReady}
+use Rattle.vk_device.specs.State.{State, place_command, ready_command}
 
 some_same : {A : Type 0} (x y : A) → Some x ≡ Some y → x ≡ y
 some_same x y e = cc e
@@ -38,3 +41,35 @@ pub can_run_it : (d : State) (queue : List Listed) (held : Held) (j place : ℕ)
 can_run_it d queue held j place e words can is same at there =
     let one : can.is.command ≡ e = one_command d j can.is (found d queue j place e is at there) in
     subst (λ h. CanRun h e words) (sym same) (subst (λ x. CanRun d.held x words) one can.can)
+
+-- Tests ----------------------------------------------------------------------------------------------------------------------
+
+pub record IsReadyAs (d : State) (j : ℕ) (e : c.Command) : Type 0 where
+  pub is : IsReady d j
+  pub same : is.command ≡ e
+
+ready_as : (d : State) (j : ℕ) (e : c.Command) → ready_command d j ≡ Some e → IsReadyAs d j e
+ready_as d j e is = by (slice_get (ready_places d.steps) j) refl is
+  where
+    by : (o : Option ℕ) → slice_get (ready_places d.steps) j ≡ o → place_command d.steps o ≡ Some e → IsReadyAs d j e
+    by None at there = absurd (cc there)
+    by (Some place) at there = record { is = record { place = place; command = e; is_place = at; is_command = there }; same = refl }
+
+can_work : (held : Held) (w : Work) (words : Option (List ℕ)) → CanWorkIf held w (is_some words) → IsDefinedIf words → CanWork held w words
+can_work held (work.Copy source target) None can defined = can
+can_work held (work.Copy source target) (Some words) can defined = absurd can
+can_work held (work.Fill target word) None can defined = can
+can_work held (work.Fill target word) (Some words) can defined = absurd can
+can_work held (work.Clear target values unit) None can defined = can
+can_work held (work.Clear target values unit) (Some words) can defined = absurd can
+can_work held (work.Dispatch shader counts slots) None can defined = absurd can
+can_work held (work.Dispatch shader counts slots) (Some words) can defined = record { defined = defined; counts = can.0; bound = can.1; apart = can.2 }
+
+-- where the command is the ready one, and the module, if one is given, has an outcome
+pub can_run_ready : (d : State) (held : Held) (j : ℕ) (e : c.Command) (words : Option (List ℕ)) (t : Bool) → held ≡ d.held → ready_command d j ≡ Some e → t ≡ is_some words
+    → CanWorkIf held e.work t → CanSkip held e.cond → IsDefinedIf words → CanRunReady d j words
+can_run_ready d held j e words t same there is can skip defined =
+    let r = ready_as d j e there in
+    let work : CanWork held e.work words = can_work held e.work words (subst (λ b. CanWorkIf held e.work b) is can) defined in
+    let run : CanRun held e words = record { work = work; condition = skip } in
+    record { is = r.is; can = subst (λ (x : c.Command). CanRun d.held x words) (sym r.same) (subst (λ h. CanRun h e words) same run) }

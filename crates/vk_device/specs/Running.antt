@@ -1,10 +1,16 @@
 -- What a device does as it runs a ready command.
-use Rattle.std.specs.Prelude.{◌≡◌, ℕ, List, [], ◌∷◌, ◌++◌, Option, Some, slice_get}
+use Rattle.std.specs.Prelude.{◌≡◌, ◌≤◌, ℕ, Bool, true, false, List, [], ◌∷◌, ◌++◌, Option, Some, None, slice_get}
 use Rattle.vk_types.specs.declared.command.Command as c
 use Rattle.vk_types.specs.Effects.{effect, invocations}
 use Rattle.query_pool.specs.Asked.{counted_more}
-use Rattle.device_memory.specs.Held.{AreAlike, memory_of}
+use Rattle.std.specs.List.{AllByRecursion}
+use Rattle.base_lemmas.specs.Lists.{Pairwise}
+use Rattle.spirv_model.specs.Meaning.ModuleDispatch.{IsDefined}
+use Rattle.vk_types.specs.declared.command.Work.{Work}
+use Rattle.vk_types.specs.declared.command.Work.TheVariants as work
+use Rattle.device_memory.specs.Held.{AreAlike, Held, IsHeld, memory_of}
 use Rattle.device_memory.specs.Meant.{meaning_by}
+use Rattle.device_memory.specs.Ranges.{AreApart, CanBind, CanCount, size_of}
 use Rattle.device_memory.specs.Runs.{CanRun}
 use Rattle.command_queue.specs.Left.{marked}
 use Rattle.command_queue.specs.Readiness.{ready_places, step_command}
@@ -21,6 +27,22 @@ pub record IsReady (d : State) (j : ℕ) : Type 0 where
 pub record CanRunReady (d : State) (j : ℕ) (words : Option (List ℕ)) : Type 0 where
   pub is : IsReady d j
   pub can : CanRun d.held is.command words
+
+-- the module has an outcome, if one is given
+abbrev pub IsDefinedIf : Option (List ℕ) → Type 0
+IsDefinedIf None = Unit {0}
+IsDefinedIf (Some words) = IsDefined words
+
+-- the work can be done where a module is given, or none, but for what the module itself must meet
+abbrev pub CanWorkIf : Held → Work → Bool → Type 0
+CanWorkIf held (work.Copy source target) true = ⊥
+CanWorkIf held (work.Copy source target) false = IsHeld held source × IsHeld held target × (size_of source ≡ size_of target)
+CanWorkIf held (work.Fill target word) true = ⊥
+CanWorkIf held (work.Fill target word) false = IsHeld held target
+CanWorkIf held (work.Clear target values unit) true = ⊥
+CanWorkIf held (work.Clear target values unit) false = IsHeld held target × (1 ≤ unit) × (unit ≤ 4)
+CanWorkIf held (work.Dispatch shader counts slots) true = CanCount held counts × AllByRecursion (CanBind held) slots × Pairwise AreApart slots
+CanWorkIf held (work.Dispatch shader counts slots) false = ⊥
 
 -- the command was run as the module means it, and all else stays
 pub record Runs (j : ℕ) (words : Option (List ℕ)) (old new : State) : Type 0 where

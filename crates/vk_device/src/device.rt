@@ -117,7 +117,7 @@ impl Device {
         dispatched(&command.work)
     }
 
-    fn ready_command(&self, j: u32) -> Option<&Command>
+    pub(crate) fn ready_command(&self, j: u32) -> Option<&Command>
         ensures { option_copied result ≡ ready_command self.now j }
     {
         let place = self.queue.ready(j)?;

@@ -4,6 +4,8 @@
 
 mod accept;
 mod accepted;
+mod check;
+mod check_batch;
 mod complete;
 mod copies;
 mod device;
