@@ -1,0 +1,4 @@
+pub mod Played
+pub mod Naming
+pub mod Staging
+pub mod Makers
