@@ -15,7 +15,7 @@ use std::collections::VecDeque;
 /// the block of each live buffer, the numbers and barriers of commands, and the shaders whose modules are asked for.
 #[derive(Drop)]
 pub struct CsPart {
-    objects: Objects,
+    objects: Objects<'static>,
     set_before: Option<Bindings>,
     blocks: BufferBlocks,
     stream: Stream,
@@ -31,7 +31,7 @@ impl CsPart {
             → CsStands calls log [] cs) }
         ensures requests { IfOk result (λ cs. requests_of cs ≡ []) }
     {
-        let objects = Objects::new(alloc);
+        let objects = Objects::new(alloc)?;
         let blocks = BufferBlocks::new(alloc);
         let stream = Stream::new(alloc);
         let requests = VecDeque::new(alloc);
