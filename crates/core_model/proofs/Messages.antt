@@ -38,3 +38,7 @@ pub mod WorkOnBlocks
 pub mod TakenLengths
 pub mod InsideBlocks
 pub mod HeldLengths
+pub mod ByteEffects
+pub mod MemoryBytes
+pub mod GivenUp
+pub mod EndsInBlocks

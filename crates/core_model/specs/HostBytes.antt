@@ -1,6 +1,7 @@
 -- What the host writes of a script, in the order of its items.
 use Rattle.std.specs.Prelude.{◌≡◌, ℕ, ◌<◌, List, [], ◌∷◌, ◌++◌}
 use Rattle.std.specs.List.{AllByRecursion}
+use Rattle.vk_types.specs.Memory.{Memory}
 use Rattle.core_model.specs.Script.{Play, Create, Discard, No_overwrite, Stage, Command, Destroy, Create_shader}
 use Rattle.core_model.specs.Script.{Mark_query, Set_state, Turn, Refused, Passed, Flushed, Asked, Item, Script}
 use Rattle.core_model.specs.Script.{padded}
@@ -30,6 +31,10 @@ turn_bytes script (Passed call) = []
 turn_bytes script (Flushed call) = []
 turn_bytes script (Asked call ask used may_pend) = []
 turn_bytes script (Item call item ends play bound) = play_bytes script play
+
+-- each byte of the memory is one
+abbrev pub IsOfBytes : Memory → Type 0
+IsOfBytes memory = (block at : ℕ) → memory block at < 256
 
 -- each of these numbers is a byte
 abbrev pub AreBytes : List ℕ → Type 0

@@ -87,3 +87,17 @@ held_done b (ps ∷ pss) held = held_done b pss ((held || takes b ps) && not (gi
 -- completed it has what none gave up, of the others all that they took and their pages
 abbrev pub holds_block : ℕ → List (List Placed) → ℕ → Bool
 holds_block n pss b = held_done b (take n pss) false || list_any (has_place b) (drop n pss)
+
+-- what a message takes, or stages bytes in, a device didn't hold that accepted those before it and completed so many
+abbrev pub TakesUnheld : ℕ → List (List Placed) → Type 0
+TakesUnheld completed pss =
+    (front : List (List Placed)) (here : List Placed) (back : List (List Placed)) → pss ≡ front ++ here ∷ back
+    → (b : ℕ) → has_place b here ≡ true → holds_block completed front b ≡ false
+
+-- the range ends inside its block: a page, as far as a message with these places staged bytes there, or a block as long
+-- as it was when one of the messages took it that took it last
+abbrev pub EndsInBlock : Log → List Head → List Placed → Range → Type 0
+EndsInBlock log hs here r =
+    ((before : List Range) × (q : Range) × (after : List Range) × (staged_ranges here ≡ before ++ q ∷ after)
+    × (q.block ≡ r.block) × (r.to ≤ q.to))
+    ⊎ ((n : ℕ) × IsLong log hs r.block n × (r.to ≤ n))

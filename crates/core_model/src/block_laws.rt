@@ -7,12 +7,13 @@ ghost use Rattle.core_model.specs.CoreState.{Segment, Running, Message, Page, Co
 ghost use Rattle.core_model.specs.CoreState.{of_running, finished_count, on_device};
 ghost use Rattle.core_model.specs.Batching.{made};
 ghost use Rattle.core_model.specs.Holding.{completed_count, placed_by, device_holds};
-ghost use Rattle.core_model.specs.Spine.{has_place};
+ghost use Rattle.core_model.specs.Spine.{has_place, gives_up, EndsInBlock};
 ghost use Rattle.core_model.specs.Adding.{has_block};
 ghost use Rattle.core_model.specs.Readings.{Reading};
 ghost use Rattle.core_model.specs.OtherParts.{is_among, used_in, needed_in};
 ghost use Rattle.core_model.specs.CoreStep.{App, Finish, Step};
-ghost use Rattle.core_model.specs.Succession.{only_class};
+ghost use Rattle.core_model.specs.Succession.{Log, only_class};
+ghost use Rattle.core_model.specs.Messages.{heads};
 ghost use Rattle.core_model.specs.Stands.{may_touch};
 ghost use Rattle.core_model.specs.Marked.{IsOff, all_messages, IsMarkedBy, IsReturning};
 ghost use Rattle.core_model.specs.Reached.{IsReached};
@@ -73,8 +74,10 @@ pub fn marked_blocks_come_home()
 
 /// The law of what the device holds, of a lawful script, in every state that steps reach from the start, in each
 /// reading. The submission that it accepts next takes only blocks that it doesn't hold, and stages bytes only in pages
-/// that it doesn't hold. And it holds every block that a command touches which is left to run, and every block to
-/// which the host writes a part for a chunk that was not completed.
+/// that it doesn't hold. And it holds every block that a command touches which is left to run, every block to which the
+/// host writes a part for a chunk that was not completed, and every block that such a chunk gives up. What is left to
+/// run, and each part, ends inside its block: a page, as far as its chunk staged bytes there, or a block as long as it
+/// was when an item of a chunk took it, behind which no chunk that the device accepted took it again.
 pub fn device_holds_what_it_uses()
     ensures next { (meaning : Meaning) (reading : Reading) (script : Script) (core : Core)
         → IsReached meaning reading script core
@@ -91,4 +94,18 @@ pub fn device_holds_what_it_uses()
         → completed_count core ≤ length front
         → AllByRecursion (λ written. device_holds core written.range.block ≡ true)
         (made script (placed_by (front ++ s ∷ []))).writes }
+    ensures marks { (meaning : Meaning) (reading : Reading) (script : Script) (core : Core)
+        → IsReached meaning reading script core
+        → (front : List Segment) (s : Segment) (back : List Segment) → on_device core ≡ front ++ s ∷ back
+        → completed_count core ≤ length front
+        → (block : ℕ) → gives_up block s.placed ≡ true → device_holds core block ≡ true }
+    ensures left_ends { (log : Log) (reading : Reading) (core : Core) → IsReached log.meaning reading log.script core
+        → (front : List Running) (r : Running) (back : List Running) → core.accepted ≡ front ++ r ∷ back
+        → AllByRecursion (λ x. AllByRecursion
+        (λ touch. EndsInBlock log (heads (on_device core)) r.segment.placed touch.range) (act_touches x.act)) r.rest }
+    ensures parts_end { (log : Log) (reading : Reading) (core : Core) → IsReached log.meaning reading log.script core
+        → (front : List Segment) (s : Segment) (back : List Segment) → on_device core ≡ front ++ s ∷ back
+        → completed_count core ≤ length front
+        → AllByRecursion (λ written. EndsInBlock log (heads (on_device core)) s.placed written.range)
+        (made log.script (placed_by (front ++ s ∷ []))).writes }
 {}

@@ -13,7 +13,7 @@ mod worked;
 
 pub use block_laws::{device_holds_what_it_uses, marked_blocks_come_home, taken_blocks_are_idle};
 pub use end_laws::{chunks_can_finish, ends_are_whole, runs_end};
-pub use message_laws::{host_writes_are_the_items, messages_succeed};
+pub use message_laws::{host_writes_are_the_items, memory_has_bytes, messages_succeed};
 pub use query_laws::{commands_count_in_order, counts_are_sums, query_messages_are_right};
 pub use run_laws::{
     counts_order_runs, host_reads_are_answers, pending_calls_are_late, runs_keep_the_invariant,

@@ -1,12 +1,14 @@
-ghost use Rattle.std.specs.Prelude.{true, ◌≡◌, suc, Some, List, [], ◌∷◌, ◌++◌, length, map, slice_get};
+ghost use Rattle.std.specs.Prelude.{true, ◌≡◌, ℕ, suc, Some, List, [], ◌∷◌, ◌++◌, length, map, slice_get};
 ghost use Rattle.vk_types.specs.Entries.{run_entries};
-ghost use Rattle.vk_types.specs.Memory.{zeros};
+ghost use Rattle.dx_types.specs.declared.range.Range.{Range};
+ghost use Rattle.vk_types.specs.declared.command.Command.{Command};
+ghost use Rattle.vk_types.specs.Memory.{Memory, zeros, put, number_at};
 ghost use Rattle.core_model.specs.Chunking.{chunks, after_chunk};
 ghost use Rattle.core_model.specs.CoreState.{Message, Core, start, flat, listed, Segment, of_messages};
 ghost use Rattle.core_model.specs.Readings.{Reading};
-ghost use Rattle.core_model.specs.HostBytes.{bytes_of};
+ghost use Rattle.core_model.specs.HostBytes.{bytes_of, AreBytes, HasBytes, IsOfBytes};
 ghost use Rattle.core_model.specs.Script.{Script};
-ghost use Rattle.vk_types.specs.Effects.{Meaning};
+ghost use Rattle.vk_types.specs.Effects.{Meaning, effect};
 ghost use Rattle.core_model.specs.Spine.{Succeeds};
 ghost use Rattle.core_model.specs.Succession.{Log, ChunkView, ChunkBy, BatchBy, SubmissionBy, CompletionBy, PostBy};
 ghost use Rattle.core_model.specs.Stands.{Stands};
@@ -77,4 +79,16 @@ pub fn host_writes_are_the_items()
     ensures ended { (meaning : Meaning) (reading : Reading) (script : Script) (core : Core)
         → IsReached meaning reading script core → core.ended ≡ true
         → core.contents ≡ bytes_of script script.turns }
+{}
+
+/// Where what the host writes of a script's items are bytes, the device's memory has bytes, in every state that steps
+/// reach, in each reading and by any choices: each command leaves bytes, and each host write of bytes does.
+pub fn memory_has_bytes()
+    ensures reached { (meaning : Meaning) (reading : Reading) (script : Script) (core : Core)
+        → IsReached meaning reading script core → HasBytes script
+        → IsOfBytes core.memory }
+    ensures commands { (meaning : Meaning) (command : Command) (memory : Memory) → IsOfBytes memory
+        → IsOfBytes (effect meaning command memory) }
+    ensures writes { (target : Range) (bytes : List ℕ) (memory : Memory) → AreBytes bytes → IsOfBytes memory
+        → IsOfBytes (put target (number_at bytes) memory) }
 {}

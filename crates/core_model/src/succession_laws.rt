@@ -13,7 +13,8 @@ ghost use Rattle.core_model.specs.Succession.{Head, Log, takes, stages_in, all_p
 ghost use Rattle.core_model.specs.Adding.{length_of};
 ghost use Rattle.core_model.specs.Formed.{WorkIsFormed, CondIsFormed};
 ghost use Rattle.core_model.specs.Lawful.{IsLawful};
-ghost use Rattle.core_model.specs.Spine.{Succeeds, made_of, MayUse, IsInside, IsLong, IsHeldBy, holds_block};
+ghost use Rattle.core_model.specs.Spine.{Succeeds, made_of, MayUse, IsInside, IsLong, IsHeldBy, holds_block, gives_up};
+ghost use Rattle.core_model.specs.Spine.{TakesUnheld, EndsInBlock};
 ghost use Rattle.core_model.specs.BatchOrder.{IsBatchListing, ops_of, staging_at};
 
 /// The law of the batches of messages, whatever places these have. Their operations, batch behind batch, are a
@@ -86,7 +87,9 @@ pub fn taken_blocks_are_apart()
 /// each of these is held: an item took it, and since then none took it again and none gave it up. So a device holds
 /// what the commands and the host writes of a message use that it accepted and did not complete, whatever it accepted
 /// behind it. The block of a buffer that lives has the length that the buffer wants: so the message took it that took
-/// it last.
+/// it last. What a message gives up is held too, as the item gives it up by the items before, and by a device that
+/// accepted the message and did not complete it. And where no message took what a device held, what is not completed
+/// ends inside blocks as long as they were taken last.
 pub fn used_blocks_are_held()
     ensures held { (log : Log) (front : List Head) (here : Head) → Succeeds log (front ++ here ∷ [])
         → (buffer block : ℕ)
@@ -110,6 +113,26 @@ pub fn used_blocks_are_held()
         → (completed : ℕ) → completed ≤ length front
         → AllByRecursion (λ written. holds_block completed (places_in (front ++ here ∷ back)) written.range.block
         ≡ true)
+        (made_of log (front ++ here ∷ [])).writes }
+    ensures marks { (log : Log) (front : List Head) (here : Head) (back : List Head)
+        → Succeeds log (front ++ here ∷ back) → (completed : ℕ) → completed ≤ length front
+        → (block : ℕ) → gives_up block here.placed ≡ true
+        → holds_block completed (places_in (front ++ here ∷ back)) block ≡ true }
+    ensures given { (log : Log) → IsLawful log.meaning log.script → (front : List Head) (here : Head)
+        → Succeeds log (front ++ here ∷ [])
+        → (before : List Placed) (place : Placed) (after : List Placed) (block : ℕ)
+        → here.placed ≡ before ++ place ∷ after → place.mark ≡ Some block
+        → IsHeldBy (all_places (places_in front) ++ before) block }
+    ensures commands_end { (log : Log) → IsLawful log.meaning log.script
+        → (front : List Head) (here : Head) (back : List Head) → Succeeds log (front ++ here ∷ back)
+        → (completed : ℕ) → completed ≤ length front → TakesUnheld completed (places_in (front ++ here ∷ back))
+        → AllByRecursion (λ command. AllByRecursion
+        (λ touch. EndsInBlock log (front ++ here ∷ back) here.placed touch.range) (touches command))
+        (made_of log (front ++ here ∷ [])).listed }
+    ensures writes_end { (log : Log) → IsLawful log.meaning log.script
+        → (front : List Head) (here : Head) (back : List Head) → Succeeds log (front ++ here ∷ back)
+        → (completed : ℕ) → completed ≤ length front → TakesUnheld completed (places_in (front ++ here ∷ back))
+        → AllByRecursion (λ written. EndsInBlock log (front ++ here ∷ back) here.placed written.range)
         (made_of log (front ++ here ∷ [])).writes }
 {}
 

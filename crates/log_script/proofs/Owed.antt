@@ -53,3 +53,4 @@ pub mod BoundOverwrites
 pub mod BoundLaws
 pub mod LawfulTurns
 pub mod LawfulScripts
+pub mod LogBytes

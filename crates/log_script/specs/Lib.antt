@@ -2,6 +2,7 @@ pub mod Makers
 pub mod Plays
 pub mod Turns
 pub mod LogScript
+pub mod LogBytes
 pub mod Modules
 pub mod Worked
 pub mod Showing

@@ -1,15 +1,10 @@
 -- A module in a shader's place: on slots that fit, a dispatch of it leaves what the shader leaves.
-use Rattle.std.specs.Prelude.{◌≡◌, ℕ, ◌<◌, true, List, Some}
-use Rattle.vk_types.specs.Memory.{Memory}
+use Rattle.std.specs.Prelude.{◌≡◌, ℕ, true, List, Some}
 use Rattle.shader_model.specs.Shader.{Program}
 use Rattle.shader_model.specs.Invocation.{Slots}
 use Rattle.shader_model.specs.Dispatch.{is_allowed, dispatched}
 use Rattle.spirv_model.specs.Meaning.Bindings.{SlotsFit}
 use Rattle.spirv_model.specs.Meaning.ModuleDispatch.{group_of, module_dispatched}
-
--- each byte is one
-abbrev pub IsOfBytes : Memory → Type 0
-IsOfBytes memory = (block at : ℕ) → memory block at < 256
 
 -- the words are a module of the program: their groups are as large, and a dispatch that isn't too large has an outcome,
 -- which is the program's

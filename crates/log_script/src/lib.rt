@@ -27,7 +27,7 @@ pub use buffers::{buffers_are_named_by_their_calls, few_dynamic_buffers_live};
 pub use bytes::lists_and_memory_agree;
 pub use checked::checked_calls_stand;
 pub use fitting::{bound_bytes_live_and_fit, turns_fit_live_buffers};
-pub use lawful::scripts_are_lawful;
+pub use lawful::{scripts_are_lawful, scripts_have_bytes};
 pub use meaning::scripts_mean_what_logs_mean;
 pub use modules::modules_mean_their_shaders;
 pub use promise::{every_run_answers_as_direct3d, every_run_keeps_the_promise};

@@ -33,7 +33,7 @@ module _ (log : Log) (lawful : IsLawful log.meaning log.script) where
   abbrev Known : List Head → Type 0
   Known hs = (r b : ℕ) → (made_of log hs).blocks r ≡ Some b → IsLong log hs b (length_of log.script r)
 
-  untaken : (pre : List Head) (x : Head) → Succeeds log (pre ++ x ∷ []) → (r b : ℕ)
+  pub untaken : (pre : List Head) (x : Head) → Succeeds log (pre ++ x ∷ []) → (r b : ℕ)
       → (made_of log pre).blocks r ≡ Some b → takes b x.placed ≡ false
   untaken pre x s r b e =
       elim (cases_Bool (takes b x.placed)) [

@@ -27,7 +27,7 @@ use Rattle.core_model.specs.Invariant.{handed}
 use Rattle.core_model.specs.Marked.{all_messages}
 use Rattle.core_model.specs.Kept.{Kept}
 use Rattle.core_model.specs.Succession.{takes, stages_in, is_staged_in, staged_range_of, staged_ranges}
-use Rattle.core_model.specs.Spine.{has_place, holds_block}
+use Rattle.core_model.specs.Spine.{has_place, holds_block, TakesUnheld}
 use Rattle.core_model.proofs.Steps.Binding.{or_left, or_right}
 use Rattle.core_model.proofs.Steps.Giving.{stocked, vacant}
 use Rattle.core_model.proofs.Blocks.BlockSorts.{IsUnmade}
@@ -42,12 +42,6 @@ use Rattle.core_model.proofs.Messages.ItemCases.{result_of, result_placed}
 use Rattle.core_model.proofs.Messages.Scenes.{Kinds, scene, other_scene, posts_scene, fence_scene, handed_scene}
 use Rattle.core_model.proofs.Messages.UnheldPlaces.{fewer_hold}
 use Rattle.core_model.proofs.Messages.UnheldBlocks.{vacant_unheld, unmade_unheld, spare_unheld}
-
--- what a message takes, or stages bytes in, a device didn't hold that accepted those before it and completed so many
-abbrev pub TakesUnheld : ℕ → List (List Placed) → Type 0
-TakesUnheld done pss =
-    (front : List (List Placed)) (here : List Placed) (back : List (List Placed)) → pss ≡ front ++ here ∷ back
-    → (b : ℕ) → has_place b here ≡ true → holds_block done front b ≡ false
 
 pub record Unheld (core : Core) : Type 0 where
   pub placed : PlacedCore core

@@ -10,7 +10,7 @@ use Rattle.vk_types.specs.Effects.{Meaning}
 use Rattle.vk_types.specs.Entries.{Entry, EntriesCovered, run_entries}
 use Rattle.base_lemmas.proofs.Lists.{all_map}
 use Rattle.core_model.specs.Script.{Destroy, Turn, Item, Script, InOrder, updated, at_start, turn_in_order, in_order}
-use Rattle.core_model.specs.Chunking.{is_due, cut}
+use Rattle.core_model.specs.Chunking.{is_due}
 use Rattle.core_model.specs.CoreState.{Segment, flat, Owner, Unmade, Home, Returning, Spare, Live, Retired, Paged}
 use Rattle.core_model.specs.CoreState.{Dropped, Core, segments, later, listed, taken_count, finished_count}
 use Rattle.core_model.specs.CoreState.{handed_count, open_number}

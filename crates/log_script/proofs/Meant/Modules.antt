@@ -18,7 +18,8 @@ use Rattle.vk_types.specs.Memory.{Memory}
 use Rattle.vk_types.specs.Effects.{SlotWords, slots_words, group_counts, put_slots, work_effect}
 use Rattle.core_model.specs.Formed.{DispatchIsFormed}
 use Rattle.log_script.specs.LogScript.{words_by, all_slots, no_slots, meaning_of}
-use Rattle.log_script.specs.Modules.{IsModuleOf, IsOfBytes}
+use Rattle.core_model.specs.HostBytes.{IsOfBytes}
+use Rattle.log_script.specs.Modules.{IsModuleOf}
 use Rattle.log_script.proofs.Meant.SlotsOfBytes.{slots_fit}
 
 -- the words of a slot that there is

@@ -1,26 +1,22 @@
--- Where memory's bytes are bytes, the slots of a formed dispatch fit a module, and each act leaves bytes.
-use Rattle.std.proofs.Common.{◌≡◌, ℕ, zero, suc, ◌+◌, ◌-◌, ◌*◌, ◌/◌, ◌^◌, ◌<◌, ◌≤◌, Bool, true, false, cond}
+-- Where memory's bytes are bytes, the slots of a formed dispatch fit a module.
+use Rattle.std.proofs.Common.{◌≡◌, ℕ, zero, suc, ◌+◌, ◌-◌, ◌*◌, ◌/◌, ◌<◌, ◌≤◌, Bool, true, false, cond}
 use Rattle.std.proofs.Common.{nat_lt, List, []}
 use Rattle.std.proofs.Common.{◌∷◌, length, map, refl, ap, arith, slice_index_or}
-use Rattle.std.specs.Prelude.{if◌then◌else◌, ◌%◌}
+use Rattle.std.specs.Prelude.{if◌then◌else◌}
 use Rattle.std.specs.List.{All, AllByRecursion}
-use Rattle.std.proofs.Math.Nat.{div-le_of_le-mul, mod-lt}
+use Rattle.std.proofs.Math.Nat.{div-le_of_le-mul}
 use Rattle.std.proofs.lemmas.List.Elements.{All-cons, All-from_get_or}
 use Rattle.dx_types.specs.declared.range.Range.{Range}
 use Rattle.vk_types.specs.declared.command.SlotName.{SlotName}
-use Rattle.vk_types.specs.declared.command.SlotName.TheVariants as slot
-use Rattle.vk_types.specs.declared.command.Work.{Work}
-use Rattle.vk_types.specs.declared.command.Work.TheVariants as work
-use Rattle.vk_types.specs.declared.command.Command.{Command}
 use Rattle.vk_types.specs.declared.command.SlotRange.{SlotRange}
-use Rattle.vk_types.specs.Memory.{Memory, covers, put, byte_of, word_of, byte_in, byte_in_words, number_at}
-use Rattle.vk_types.specs.Effects.{Meaning, SlotWords, words_in, slot_words, slots_words, is_constant, is_srv, is_uav}
-use Rattle.vk_types.specs.Effects.{group_counts, put_slot, put_slots, work_effect, is_skipped, effect}
+use Rattle.vk_types.specs.Memory.{Memory, word_of}
+use Rattle.vk_types.specs.Effects.{SlotWords, words_in, slot_words, slots_words, is_constant, is_srv, is_uav}
 use Rattle.base_lemmas.specs.Lists.{numbers_from}
 use Rattle.core_model.specs.Formed.{range_size, SlotIsFormed}
 use Rattle.spirv_model.specs.Meaning.Bindings.{SlotsFit, first_read, first_write, end_of_bindings}
 use Rattle.log_script.specs.LogScript.{all_slots}
-use Rattle.log_script.specs.Modules.{IsOfBytes}
+use Rattle.core_model.specs.HostBytes.{IsOfBytes}
+use Rattle.core_model.proofs.Messages.ByteEffects.{byte_small}
 
 -- words that fit a slot of a module
 abbrev AreFew : List ℕ → Type 0
@@ -30,19 +26,12 @@ none_few : AreFew []
 none_few = (omega arith, All-from_get_or (λ w. w < 4294967296) [] 0 (λ i l. absurd (let z : ⊥ = omega (arith, l) in z)))
 
 module _ (memory : Memory) (bytes : IsOfBytes memory) where
-  byte_small : (r : Range) (k : ℕ) → byte_of memory r k < 256
-  byte_small r k = by (nat_lt (r.from + k) r.to)
-    where
-      by : (c : Bool) → cond c (memory r.block (r.from + k)) 0 < 256
-      by true = bytes r.block (r.from + k)
-      by false = omega arith
-
   pub word_small : (r : Range) (k : ℕ) → word_of memory r k < 4294967296
   word_small r k =
-      let a = byte_small r (4 * k) in
-      let b = byte_small r (4 * k + 1) in
-      let c = byte_small r (4 * k + 2) in
-      let d = byte_small r (4 * k + 3) in
+      let a = byte_small memory bytes r (4 * k) in
+      let b = byte_small memory bytes r (4 * k + 1) in
+      let c = byte_small memory bytes r (4 * k + 2) in
+      let d = byte_small memory bytes r (4 * k + 3) in
       omega (arith, a, b, c, d)
 
   words_small : (r : Range) (from n : ℕ) → All (λ w. w < 4294967296) (map (word_of memory r) (numbers_from from n))
@@ -102,56 +91,3 @@ pub slots_fit : (memory : Memory) → IsOfBytes memory → (ss : List SlotRange)
 slots_fit memory bytes ss h = few_fit (slots_words memory ss)
     (λ i. slot_few memory bytes (is_constant i) ss h) (λ i. slot_few memory bytes (is_srv i) ss h)
     (λ i. slot_few memory bytes (is_uav i) ss h)
-
--- What acts leave ---------------------------------------------------------------------------------------------------
-
-put_bytes_small : (r : Range) (piece : ℕ → ℕ) (memory : Memory) → ((k : ℕ) → piece k < 256) → IsOfBytes memory
-    → IsOfBytes (put r piece memory)
-put_bytes_small r piece memory small h block at = by (covers r block at)
-  where
-    by : (c : Bool) → cond c (piece (at - r.from)) (memory block at) < 256
-    by true = small (at - r.from)
-    by false = h block at
-
-byte_in_small : (word k : ℕ) → byte_in word k < 256
-byte_in_small word k = mod-lt (word / 256 ^ k) (omega arith)
-
-number_small : (bytes : List ℕ) → AllByRecursion (λ b. b < 256) bytes → (k : ℕ) → number_at bytes k < 256
-number_small [] h k = omega arith
-number_small (b ∷ bs) h zero = h.0
-number_small (b ∷ bs) h (suc k) = number_small bs h.1 k
-
-pub written_small : (target : Range) (bytes : List ℕ) (memory : Memory) → AllByRecursion (λ b. b < 256) bytes
-    → IsOfBytes memory → IsOfBytes (put target (number_at bytes) memory)
-written_small target bytes memory small h = put_bytes_small target (number_at bytes) memory (number_small bytes small) h
-
-slots_small : (words : ℕ → List ℕ) (ss : List SlotRange) (memory : Memory) → IsOfBytes memory
-    → IsOfBytes (put_slots words ss memory)
-slots_small words [] memory h = h
-slots_small words (s ∷ ss) memory h = slots_small words ss (put_slot words s.slot s.range memory) (one s.slot)
-  where
-    one : (name : SlotName) → IsOfBytes (put_slot words name s.range memory)
-    one (slot.Constant i) = h
-    one (slot.Srv i) = h
-    one (slot.Uav i) = put_bytes_small s.range (byte_in_words (words i)) memory
-        (λ k. byte_in_small (number_at (words i) (k / 4)) (k % 4)) h
-
-work_small : (meaning : Meaning) (w : Work) (memory : Memory) → IsOfBytes memory
-    → IsOfBytes (work_effect meaning w memory)
-work_small meaning (work.Copy source target) memory h = put_bytes_small target (byte_of memory source) memory
-    (byte_small memory h source) h
-work_small meaning (work.Fill target word) memory h = put_bytes_small target (λ k. byte_in word (k % 4)) memory
-    (λ k. byte_in_small word (k % 4)) h
-work_small meaning (work.Clear target words unit) memory h =
-    put_bytes_small target (λ k. byte_in (number_at words (k / 4 % unit)) (k % 4)) memory
-    (λ k. byte_in_small (number_at words (k / 4 % unit)) (k % 4)) h
-work_small meaning (work.Dispatch shader counts slots) memory h =
-    slots_small (meaning.words shader (group_counts memory counts) (slots_words memory slots)) slots memory h
-
-pub effect_small : (meaning : Meaning) (d : Command) (memory : Memory) → IsOfBytes memory
-    → IsOfBytes (effect meaning d memory)
-effect_small meaning d memory h = by (is_skipped d.cond memory)
-  where
-    by : (c : Bool) → IsOfBytes (cond c memory (work_effect meaning d.work memory))
-    by true = h
-    by false = work_small meaning d.work memory h

@@ -89,7 +89,7 @@ list_fits o (c ∷ cs) named live h = (
 )
 
 accepts_named : (log : List Issued) → Accepts Named log
-accepts_named log n i e =
+accepts_named log n i there e =
     let s = after_calls log n in
     named_if s.objects s.past i.context i.call (own_checks s.objects s.past i.context i.call e) (live_made log n)
 

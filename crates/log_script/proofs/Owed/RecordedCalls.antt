@@ -103,9 +103,10 @@ none_recorded P zero x = tt
 none_recorded P (suc n) zero = tt
 none_recorded P (suc n) (suc x) = none_recorded P n x
 
--- the calls that are accepted have the property
+-- the calls of the log that are accepted have the property
 abbrev pub Accepts : (Call → Type 0) → List Issued → Type 0
-Accepts P log = (n : ℕ) (i : Issued) → verdict_in (after_calls log n) i ≡ None → P i.call
+Accepts P log = (n : ℕ) (i : Issued) → slice_get log n ≡ Some i → verdict_in (after_calls log n) i ≡ None
+    → P i.call
 
 pub recorded : (P : Call → Type 0) (log : List Issued) → Accepts P log → (n : ℕ)
     → Recorded P (after_calls log n).objects
@@ -125,10 +126,10 @@ recorded P log accepts (suc n) = by_call (suc n) (after_calls log n) (slice_get 
     unless n s i (Some why) a h = h
     unless n s i None a h = after_one P n s.objects i.context i.call (a refl) h
 
-    by_call : (n : ℕ) (s : State) (o : Option Issued) → ((i : Issued) → verdict_in s i ≡ None → P i.call)
+    by_call : (n : ℕ) (s : State) (o : Option Issued) → ((i : Issued) → o ≡ Some i → verdict_in s i ≡ None → P i.call)
         → Recorded P s.objects → Recorded P (after_call n s o).objects
     by_call n s None a h = h
-    by_call n s (Some i) a h = unless n s i (verdict_in s i) (a i) h
+    by_call n s (Some i) a h = unless n s i (verdict_in s i) (a i refl) h
 
 -- the calls of a list that is live
 pub of_list : (P : Call → Type 0) (o : Objects) (list : ℕ) → Recorded P o → All P (calls_of_list o list)

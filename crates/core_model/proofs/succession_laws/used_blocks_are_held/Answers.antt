@@ -1,5 +1,7 @@
 use Rattle.core_model.proofs.Messages.HeldBlocks.{holds_behind}
-use Rattle.core_model.proofs.Messages.DeviceHolds.{commands_held, writes_held}
+use Rattle.core_model.proofs.Messages.DeviceHolds.{commands_held, writes_held, marks_held}
+use Rattle.core_model.proofs.Messages.EndsInBlocks.{commands_end, writes_end}
+use Rattle.core_model.proofs.Messages.GivenUp.{given_held}
 use Rattle.core_model.proofs.Messages.HeldLengths.{lengths_known}
 use Rattle.core_model.proofs.succession_laws.used_blocks_are_held.Goals as goal
 
@@ -10,4 +12,8 @@ returns c = record {
   lengths = λ log lawful front s. lengths_known log lawful front s;
   commands = commands_held;
   writes = writes_held;
+  marks = marks_held;
+  given = given_held;
+  commands_end = commands_end;
+  writes_end = writes_end;
 }

@@ -1,5 +1,5 @@
 use Rattle.log_script.proofs.Meant.Modules.{has_outcome, too_large, counts_alike, does_as}
-use Rattle.log_script.proofs.Meant.SlotsOfBytes.{slots_fit, effect_small, written_small}
+use Rattle.log_script.proofs.Meant.SlotsOfBytes.{slots_fit}
 use Rattle.log_script.proofs.modules.modules_mean_their_shaders.Goals as goal
 
 pub returns : goal.returns
@@ -12,6 +12,4 @@ returns c = record {
   fit = λ memory bytes counts slots formed. slots_fit memory bytes slots formed.each;
   effects = λ log shader program words spells is memory bytes counts slots formed allowed.
       does_as log shader program words spells is memory bytes counts slots formed allowed;
-  bytes = effect_small;
-  writes = written_small;
 }
