@@ -18,3 +18,4 @@ pub mod Touching
 pub mod Kept
 pub mod Rows
 pub mod Marks
+pub mod Stages

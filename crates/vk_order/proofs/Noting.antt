@@ -26,9 +26,9 @@ noted_grew : (old new : MaxTree) (reach : Reach) (number : ℕ) → MarksGrew ol
 noted_grew old new reach number g h i from to within = let w = g.width in tree_grew old new i number g (h i from to (omega (arith, within, w)))
 
 pub touch_kept : (old new : Index) (s : Stages) (t : Touch) (past finish : ℕ) → new.cuts ≡ old.cuts
-    → ((n : ℕ) (l : Layer) → slice_get old.layers.items n ≡ Some l → IsStillThere new.layers.items n l) → MarksGrew old.touched new.touched → MarksGrew old.written new.written
+    → ((n : ℕ) (l : Layer) → slice_get old.layers.items n ≡ Some l → IsStillThere new.layers.items n l) → new.hosted ≡ old.hosted → MarksGrew old.touched new.touched → MarksGrew old.written new.written
     → HasTouch old s t past finish → HasTouch new s t past finish
-touch_kept old new s t past finish cuts layers touched written h =
+touch_kept old new s t past finish cuts layers hosted touched written h =
     let k = layers h.number h.layer h.there in
     record {
       number = h.number;
@@ -38,12 +38,12 @@ touch_kept old new s t past finish cuts layers touched written h =
       reach = h.reach;
       reaches = subst (λ cs. IsReach cs.items t.range h.reach) (sym cuts) h.reaches;
       marked = noted_grew h.layer.marks k.layer.marks h.reach past k.grew h.marked;
-      touched = noted_grew old.touched new.touched h.reach finish touched h.touched;
-      written = λ w. noted_grew old.written new.written h.reach finish written (h.written w);
+      touched = λ on. noted_grew old.touched new.touched h.reach finish touched (h.touched (sym hosted ∙ on));
+      written = λ on w. noted_grew old.written new.written h.reach finish written (h.written (sym hosted ∙ on) w);
     }
 
 pub touch_grew : (old new : Index) (s : Stages) (t : Touch) (past finish : ℕ) → IndexGrew old new → HasTouch old s t past finish → HasTouch new s t past finish
-touch_grew old new s t past finish g h = touch_kept old new s t past finish g.cuts g.layers g.touched g.written h
+touch_grew old new s t past finish g h = touch_kept old new s t past finish g.cuts g.layers g.hosted g.touched g.written h
 
 -- the layers that passed are still there
 pub passed_there : (old new : Index) (b : Barrier) (past : ℕ) → IndexPassed old new b past → (n : ℕ) (l : Layer) → slice_get old.layers.items n ≡ Some l → IsStillThere new.layers.items n l
@@ -59,7 +59,7 @@ passed_there old new b past p n l e =
 
 pub touch_passed : (old new : Index) (b : Barrier) (passing : ℕ) (s : Stages) (t : Touch) (past finish : ℕ) → IndexPassed old new b passing → HasTouch old s t past finish → HasTouch new s t past finish
 touch_passed old new b passing s t past finish p h =
-    touch_kept old new s t past finish p.cuts (passed_there old new b passing p)
+    touch_kept old new s t past finish p.cuts (passed_there old new b passing p) p.hosted
     (subst (λ (u : MaxTree). MarksGrew old.touched u) (sym p.touched) (tree_same old.touched)) (subst (λ (u : MaxTree). MarksGrew old.written u) (sym p.written) (tree_same old.written)) h
 
 -- An index that grew twice -------------------------------------------------------------------------------------------------
@@ -70,6 +70,7 @@ index_same index = record {
   seconds = refl;
   layers = λ n l e. record { layer = l; there = e; first = refl; grew = tree_same l.marks };
   lasts = λ n l e. inr (record { layer = l; there = e; first = refl; lasts = refl; host = refl });
+  hosted = refl;
   touched = tree_same index.touched;
   written = tree_same index.written;
 }
@@ -83,6 +84,7 @@ index_more a b c g h = record {
       let m = h.layers n k.layer k.there in
       record { layer = m.layer; there = m.there; first = m.first ∙ k.first; grew = tree_more l.marks k.layer.marks m.layer.marks k.grew m.grew };
   lasts = λ n l e. back n l (h.lasts n l e);
+  hosted = h.hosted ∙ g.hosted;
   touched = tree_more a.touched b.touched c.touched g.touched h.touched;
   written = tree_more a.written b.written c.written g.written h.written;
 }

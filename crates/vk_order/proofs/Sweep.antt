@@ -140,7 +140,7 @@ write_closed ops places index x y c r call finished few holds clear lt there =
     let s = reaches_meet index.cuts.items k.t.range r noted.reach clear.reach noted.reaches clear.reaches meet in
     let wide = holds.sound.touched.width in
     let w = s.within in
-    let mark = noted.touched s.place s.from_a s.to_a (omega (arith, wide, w)) in
+    let mark = noted.touched clear.hosted s.place s.from_a s.to_a (omega (arith, wide, w)) in
     let below = clear.finished s.place (slice_index places x) s.from_b s.to_b (omega (arith, wide, w)) mark in
     both_true (is_fenced (submission_of ops x) (between ops x y)) true (fenced_before ops x y (slice_index places x) few below (finished.each x c there)) refl)
 
@@ -188,7 +188,7 @@ read_closed ops places index x y c r call finished few holds clear lt there =
     let s = reaches_meet index.cuts.items k.t.range r noted.reach clear.reach noted.reaches clear.reaches (meets_of k.t (host_read_touch r) conflict) in
     let wide = holds.sound.written.width in
     let w = s.within in
-    let mark = noted.written (writes_of_read k.t r conflict) s.place s.from_a s.to_a (omega (arith, wide, w)) in
+    let mark = noted.written clear.hosted (writes_of_read k.t r conflict) s.place s.from_a s.to_a (omega (arith, wide, w)) in
     let below = clear.finished s.place (slice_index places x) s.from_b s.to_b (omega (arith, wide, w)) mark in
     both_true (is_fenced (submission_of ops x) (between ops x y)) (each_pair (host_visible (between ops x y)) (touches c) (host_read_touch r ∷ []))
     (fenced_before ops x y (slice_index places x) few below (finished.each x c there))

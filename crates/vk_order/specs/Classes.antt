@@ -5,6 +5,10 @@ use Rattle.vk_types.specs.declared.access.Stage.{Stage}
 use Rattle.vk_types.specs.declared.access.Stage.TheVariants as stage
 use Rattle.vk_types.specs.declared.touch.Touch.{Touch}
 use Rattle.vk_types.specs.declared.command.Command.{Command}
+use Rattle.vk_types.specs.declared.command.Groups.{Groups}
+use Rattle.vk_types.specs.declared.command.Groups.TheVariants as groups
+use Rattle.vk_types.specs.declared.command.Work.{Work}
+use Rattle.vk_types.specs.declared.command.Work.TheVariants as work
 use Rattle.vk_types.specs.declared.op.Barrier.{Barrier}
 use Rattle.vk_types.specs.Hazards.{has_stage, has_write}
 use Rattle.vk_types.specs.Before.{access_at}
@@ -12,6 +16,24 @@ use Rattle.vk_types.specs.Covered.{writes_named, reads_named, allowed_by}
 use Rattle.vk_order.specs.declared.classes.Stages.{Stages}
 use Rattle.vk_order.specs.declared.classes.First.{First}
 use Rattle.vk_order.specs.declared.classes.Second.{Second}
+
+-- the work is done as shaders run; else it is a transfer
+abbrev pub is_computed : Work → Bool
+is_computed (work.Copy source target) = false
+is_computed (work.Fill target word) = false
+is_computed (work.Clear target words unit) = true
+is_computed (work.Dispatch shader counts slots) = true
+
+abbrev pub is_counted : Groups → Bool
+is_counted (groups.Direct x y z) = false
+is_counted (groups.Indirect at) = true
+
+-- the work is a dispatch whose counts stand in a buffer
+abbrev pub is_indirect : Work → Bool
+is_indirect (work.Copy source target) = false
+is_indirect (work.Fill target word) = false
+is_indirect (work.Clear target words unit) = false
+is_indirect (work.Dispatch shader counts slots) = is_counted counts
 
 abbrev pub stages_of : Command → Stages
 stages_of c = record {

@@ -40,11 +40,7 @@ pub record IsFirstIndex (index : Index) : Type 0 where
 abbrev pub IsNotedOver : MaxTree → Reach → ℕ → Type 0
 IsNotedOver t reach number = (i : ℕ) → reach.from ≤ i → i < reach.to → i < t.width → HasMark t i number
 
--- each number that is noted over the reach is at most this one
-abbrev pub IsBelow : MaxTree → Reach → ℕ → Type 0
-IsBelow t reach most = (i n : ℕ) → reach.from ≤ i → i < reach.to → i < t.width → HasMark t i n → n ≤ most
-
--- a touch is noted, of a command just before a place that a fence finishes
+-- a touch is noted, of a command just before a place that a fence finishes; the fence only where the listing has acts of the host
 pub record HasTouch (index : Index) (stages : Stages) (t : Touch) (past finish : ℕ) : Type 0 where
   pub number : ℕ
   pub layer : Layer
@@ -53,8 +49,8 @@ pub record HasTouch (index : Index) (stages : Stages) (t : Touch) (past finish :
   pub reach : Reach
   pub reaches : IsReach index.cuts.items t.range reach
   pub marked : IsNotedOver layer.marks reach past
-  pub touched : IsNotedOver index.touched reach finish
-  pub written : has_write t.access ≡ true → IsNotedOver index.written reach finish
+  pub touched : index.hosted ≡ true → IsNotedOver index.touched reach finish
+  pub written : index.hosted ≡ true → has_write t.access ≡ true → IsNotedOver index.written reach finish
 
 -- so is each touch of the command
 abbrev pub AreNoted : Index → Command → ℕ → ℕ → Type 0
@@ -73,12 +69,14 @@ AreClear index d = (j : ℕ) (u : Touch) → slice_get (touches d) j ≡ Some u 
 
 -- the noted touches that conflict with a write of the host are finished
 pub record IsWriteClear (index : Index) (at : ℕ) (r : Range) : Type 0 where
+  pub hosted : index.hosted ≡ true
   pub reach : Reach
   pub reaches : IsReach index.cuts.items r reach
   pub finished : (i n : ℕ) → reach.from ≤ i → i < reach.to → i < index.touched.width → HasMark index.touched i n → n < at
 
 -- those that conflict with a read of the host are, and the host is shown what they wrote
 pub record IsReadClear (index : Index) (at : ℕ) (r : Range) : Type 0 where
+  pub hosted : index.hosted ≡ true
   pub reach : Reach
   pub reaches : IsReach index.cuts.items r reach
   pub finished : (i n : ℕ) → reach.from ≤ i → i < reach.to → i < index.written.width → HasMark index.written i n → n < at
@@ -120,6 +118,7 @@ pub record IndexGrew (old new : Index) : Type 0 where
   pub seconds : new.seconds ≡ old.seconds
   pub layers : (n : ℕ) (l : Layer) → slice_get old.layers.items n ≡ Some l → IsStillThere new.layers.items n l
   pub lasts : (n : ℕ) (l : Layer) → slice_get new.layers.items n ≡ Some l → HasNoLasts l ⊎ WasThere old.layers.items n l
+  pub hosted : new.hosted ≡ old.hosted
   pub touched : MarksGrew old.touched new.touched
   pub written : MarksGrew old.written new.written
 
@@ -129,6 +128,7 @@ pub record IndexPassed (old new : Index) (b : Barrier) (past : ℕ) : Type 0 whe
   pub seconds : new.seconds ≡ old.seconds
   pub len : length new.layers.items ≡ length old.layers.items
   pub layers : ArePassed old.seconds.items b past old.layers.items new.layers.items
+  pub hosted : new.hosted ≡ old.hosted
   pub touched : new.touched ≡ old.touched
   pub written : new.written ≡ old.written
 

@@ -1,11 +1,11 @@
 //! Classes of touches: whether a barrier covers a hazard of two commands depends on the classes of its touches alone.
 
-ghost use Rattle.std.specs.Prelude.{◌≡◌, true, Some};
-ghost use Rattle.vk_order.specs.Classes.{first_of, names, second_of, shows_at, shows_host, stages_of, written_stage};
+ghost use Rattle.std.specs.Prelude.{◌≡◌, ◌||◌, true, Some, is_some};
+ghost use Rattle.vk_order.specs.Classes.{first_of, names, second_of, shows_at, shows_host, stages_of, written_stage, is_computed, is_indirect};
 ghost use Rattle.vk_order.specs.Classes as classes;
 
 use crate::visible::{allowed_by, reads_named, writes_named};
-use vk_types::{Access, Barrier, Command, Mask, Stage, Touch};
+use vk_types::{Access, Barrier, Command, Groups, Mask, Stage, Touch, Work};
 
 /// The stages of a command.
 #[derive(Clone, Copy, PartialEq, Eq)]
@@ -31,14 +31,45 @@ pub struct Second {
     pub access: Access,
 }
 
+// Whether the work is done as shaders run; else it is a transfer.
+fn is_computed(work: &Work) -> bool
+    ensures { result ≡ is_computed work.now }
+{
+    match work {
+        Work::Copy { .. } | Work::Fill { .. } => false,
+        Work::Clear { .. } | Work::Dispatch { .. } => true,
+    }
+}
+
+// Whether the work is a dispatch whose counts stand in a buffer.
+fn is_indirect(work: &Work) -> bool
+    ensures { result ≡ is_indirect work.now }
+{
+    match work {
+        Work::Dispatch { groups, .. } => match groups {
+            Groups::Indirect { .. } => true,
+            Groups::Direct { .. } => false,
+        },
+        _ => false,
+    }
+}
+
+fn reads_first(c: &Command) -> bool
+    ensures { result ≡ (is_indirect c.now.work || is_some c.now.cond) }
+{
+    is_indirect(&c.work) || c.cond.is_some()
+}
+
+/// The stages of a command: those of its work, and that at which counts and conditions are read.
 pub fn stages_of(c: &Command) -> Stages
     ensures { result ≡ stages_of c.now }
 {
+    let compute = is_computed(&c.work);
     Stages {
-        indirect: c.has_stage(Stage::Indirect),
-        compute: c.has_stage(Stage::Compute),
-        transfer: c.has_stage(Stage::Transfer),
-        host: c.has_stage(Stage::Host),
+        indirect: reads_first(c),
+        compute,
+        transfer: !compute,
+        host: false,
     }
 }
 

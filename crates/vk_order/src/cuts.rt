@@ -98,6 +98,17 @@ fn place_of(cuts: &[Cut], cut: &Cut) -> usize
     low
 }
 
+// A place from which on no cut precedes this one: mostly the one that is likely, which is looked at first.
+fn end_place(cuts: &[Cut], likely: usize, cut: &Cut) -> usize
+    requires { IsRising cuts.now }
+    ensures { (k : ℕ) (c : Cut) → result ≤ k → slice_get cuts.now k ≡ Some c → precedes c cut.now ≡ false }
+{
+    match cuts.get(likely) {
+        Some(other) if !precedes(other, cut) => likely,
+        _ => place_of(cuts, cut),
+    }
+}
+
 // Whether this cut stands there.
 fn stands_at(cuts: &[Cut], place: usize, cut: &Cut) -> bool
     requires { place ≤ length cuts.now }
@@ -121,6 +132,6 @@ pub fn reach_of(cuts: &[Cut], range: &Range) -> Reach
     }
     Reach {
         from,
-        to: place_of(cuts, &end_of(range)),
+        to: end_place(cuts, from + 1, &end_of(range)),
     }
 }

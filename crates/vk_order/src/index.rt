@@ -1,7 +1,7 @@
 //! What is known of the operations of a listing up to a place, by which it is told quickly that an act there is covered.
 
 ghost use Rattle.std.specs.Prelude.{◌≡◌, ℕ, ◌+◌, ◌<◌, ◌≤◌, ◌^◌, true, false, max, Some, IfOk, OnOk, length, slice_get};
-ghost use Rattle.vk_order.specs.Tree.{IsTree, MarksGrew};
+ghost use Rattle.vk_order.specs.Tree.{HasMark, IsTree, MarksGrew};
 ghost use Rattle.vk_order.specs.Index.{AreClear, AreNoted, HasTouch, IndexGrew, IndexPassed, IsClear, IsFirstIndex, IsNoted, IsNotedOver, IsSound, IsTouchClear, IsReadClear, IsWriteClear, width_of};
 
 use crate::classes::{Second, Stages, first_of, second_of, stages_of};
@@ -13,12 +13,14 @@ use std::alloc::{AllocError, Global};
 use vk_types::{Barrier, Command, Touch, VkOp};
 
 /// The touches of the operations so far, by their classes; and over the same cuts the place of the fence that finishes the
-/// latest to be finished of all touches, and of those that write.
+/// latest to be finished of all touches, and of those that write. Only acts of the host ask for these: where a listing has
+/// none, none is noted.
 #[derive(Drop)]
 pub struct Index {
     pub cuts: Vec<Cut>,
     pub seconds: Vec<Second>,
     pub layers: Vec<Layer>,
+    pub hosted: bool,
     pub touched: MaxTree,
     pub written: MaxTree,
 }
@@ -47,6 +49,13 @@ fn push_seconds(seconds: &mut Vec<Second>, c: &Command) -> Result<(), AllocError
     Ok(())
 }
 
+fn is_of_host(op: &VkOp) -> bool {
+    match op {
+        VkOp::HostWrite { .. } | VkOp::HostRead { .. } => true,
+        _ => false,
+    }
+}
+
 // How many places a tree has over these cuts.
 fn width_of(cuts: &[Cut]) -> usize
     ensures { result ≡ width_of cuts.now }
@@ -66,6 +75,17 @@ fn raise_if(tree: &mut MaxTree, holds: bool, reach: Reach, number: u32)
     }
 }
 
+// Whether each number that is noted over the reach is less than this one. Where it is false, mostly one isn't.
+fn are_before(tree: &MaxTree, reach: Reach, at: usize) -> bool
+    requires { IsTree tree.now }
+    ensures { result ≡ true → (i n : ℕ) → reach.from ≤ i → i < reach.to → i < tree.now.width → HasMark tree.now i n → n < at }
+{
+    match at.checked_sub(1) {
+        Some(last) => tree.is_below(reach, last),
+        None => false,
+    }
+}
+
 impl Index {
     /// What is known before the first operation of a listing.
     pub fn new(alloc: Global, ops: &[VkOp]) -> Result<Index, AllocError>
@@ -77,6 +97,7 @@ impl Index {
             cuts,
             seconds: seconds_of(alloc, ops)?,
             layers: Vec::new(alloc),
+            hosted: ops.iter().any(is_of_host),
             touched: MaxTree::new(alloc, width)?,
             written: MaxTree::new(alloc, width)?,
         })
@@ -117,7 +138,7 @@ impl Index {
         ensures { result ≡ true → IsWriteClear self.now at range.now }
     {
         let reach = reach_of(&self.cuts, range);
-        (self.touched.greatest(reach) as usize) < at
+        self.hosted && are_before(&self.touched, reach, at)
     }
 
     fn read_is_clear(&self, at: usize, range: &Range) -> bool
@@ -125,7 +146,7 @@ impl Index {
         ensures { result ≡ true → IsReadClear self.now at range.now }
     {
         let reach = reach_of(&self.cuts, range);
-        if self.written.greatest(reach) as usize >= at {
+        if !self.hosted || !are_before(&self.written, reach, at) {
             return false;
         }
         for n in 0..self.layers.len() {
@@ -173,8 +194,14 @@ impl Index {
             self.seconds.len(),
         )?;
         raise_layer(&mut self.layers, n, reach, past);
-        self.touched.raise(reach, finish);
-        raise_if(&mut self.written, t.access.writes(), reach, finish);
+        let hosted = self.hosted;
+        raise_if(&mut self.touched, hosted, reach, finish);
+        raise_if(
+            &mut self.written,
+            hosted && t.access.writes(),
+            reach,
+            finish,
+        );
         Ok(())
     }
 

@@ -59,7 +59,7 @@ impl Layer {
         requires { IsTree self.now.marks }
         ensures { result ≡ true → AreMarksBelow self.now u.now reach second }
     {
-        !asks(&self.first, u) || self.marks.greatest(reach) <= self.last(second)
+        !asks(&self.first, u) || self.marks.is_below(reach, self.last(second) as usize)
     }
 
     /// Whether the host is shown what was written at these places.
@@ -67,7 +67,7 @@ impl Layer {
         requires { IsTree self.now.marks }
         ensures { result ≡ true → AreHostMarksBelow self.now reach }
     {
-        self.first.written.is_none() || self.marks.greatest(reach) <= self.to_host
+        self.first.written.is_none() || self.marks.is_below(reach, self.to_host as usize)
     }
 
     fn raise(&mut self, reach: Reach, number: u32)

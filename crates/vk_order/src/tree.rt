@@ -80,26 +80,46 @@ fn raise_part(marks: &mut [u32], bests: &mut [u32], part: Part, reach: Reach, nu
         marks[part.node] = marks[part.node].max(number);
         return;
     }
-    raise_part(marks, bests, part.left(), reach, number);
-    raise_part(marks, bests, part.right(), reach, number);
+    let left = part.left();
+    let right = part.right();
+    if right.is_apart(reach) {
+        raise_part(marks, bests, left, reach, number);
+        return;
+    }
+    if left.is_apart(reach) {
+        raise_part(marks, bests, right, reach, number);
+        return;
+    }
+    raise_part(marks, bests, left, reach, number);
+    raise_part(marks, bests, right, reach, number);
 }
 
-// The greatest number that was noted at a place of the part that is in the reach, as far as the nodes from the part on say.
-fn greatest_in(marks: &[u32], bests: &[u32], part: Part, reach: Reach) -> u32
+// Whether each number that was noted at a place of the part that is in the reach is at most the bound, as far as the nodes
+// from the part on say. Only a node with a greater best is looked below.
+fn is_part_below(marks: &[u32], bests: &[u32], part: Part, reach: Reach, bound: usize) -> bool
     requires same { length bests.now ≡ length marks.now }
     requires node { IsNode (length marks.now) part }
     requires tops { AreTops marks.now bests.now }
-    ensures { AreAtMost marks.now part reach result }
+    ensures { result ≡ true → AreAtMost marks.now part reach bound }
 {
     if part.is_apart(reach) {
-        return 0;
+        return true;
+    }
+    if bests[part.node] as usize <= bound {
+        return true;
     }
     if part.is_within(reach) || part.node >= marks.len() / 2 {
-        return bests[part.node];
+        return false;
     }
-    let left = greatest_in(marks, bests, part.left(), reach);
-    let right = greatest_in(marks, bests, part.right(), reach);
-    marks[part.node].max(left.max(right))
+    if marks[part.node] as usize > bound {
+        return false;
+    }
+    let left = part.left();
+    let right = part.right();
+    if !is_part_below(marks, bests, left, reach, bound) {
+        return false;
+    }
+    is_part_below(marks, bests, right, reach, bound)
 }
 
 /// Numbers over places: each node has the greatest that was noted over all its places, and the greatest at any of them.
@@ -151,16 +171,16 @@ impl MaxTree {
         raise_part(&mut self.marks, &mut self.bests, root, reach, number);
     }
 
-    /// The greatest number that was noted at a place of the reach.
-    pub fn greatest(&self, reach: Reach) -> u32
+    /// Whether each number that was noted at a place of the reach is at most the bound. Where it is false, mostly one isn't.
+    pub fn is_below(&self, reach: Reach, bound: usize) -> bool
         requires { IsTree self.now }
-        ensures { (i n : ℕ) → reach.from ≤ i → i < reach.to → i < self.now.width → HasMark self.now i n → n ≤ result }
+        ensures { result ≡ true → (i n : ℕ) → reach.from ≤ i → i < reach.to → i < self.now.width → HasMark self.now i n → n ≤ bound }
     {
         let root = Part {
             node: 1,
             from: 0,
             width: self.width,
         };
-        greatest_in(&self.marks, &self.bests, root, reach)
+        is_part_below(&self.marks, &self.bests, root, reach, bound)
     }
 }

@@ -31,6 +31,7 @@ returns-clause-passed c =
       seconds = refl;
       len = ap length is ∙ (c.pass_layers.ensures.len ∙ ap length c.deref_mut.ensures.value);
       layers = subst (λ (ls : List Layer). ArePassed old.seconds.items b past old.layers.items ls) (sym is) passed;
+      hosted = refl;
       touched = refl;
       written = refl;
     }

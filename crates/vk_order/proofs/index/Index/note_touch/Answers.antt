@@ -1,4 +1,4 @@
-use Rattle.std.proofs.Common.{◌≡◌, ℕ, List, slice_get, refl, sym, ap, subst, ◌∙◌, arith}
+use Rattle.std.proofs.Common.{◌≡◌, ℕ, List, slice_get, refl, sym, ap, subst, ◌∙◌}
 use Rattle.std.specs.Vec.{with_items}
 use Rattle.std.proofs.lemmas.List.{with_items_is}
 use Rattle.vk_order.specs.declared.cuts.Cut.{Cut}
@@ -8,6 +8,7 @@ use Rattle.vk_order.specs.Layers.{AreRaisedAt, PushedFresh}
 use Rattle.vk_order.specs.Index.{IsStillThere, width_of}
 use Rattle.vk_order.proofs.Touching.{AllOver, HasLayer, layer_raised, over_grew, over_pushed, over_raised, still_there, was_there}
 use Rattle.vk_order.proofs.index.Index.note_touch.Goals as goal
+use Rattle.vk_order.proofs.index.Index.note_touch.Goals.{then-hosted, else-hosted}
 
 pub raise_layer-requires-clause-sound : goal.raise_layer-requires-clause-sound
 raise_layer-requires-clause-sound c = λ n l e.
@@ -29,8 +30,8 @@ returns-clause-sound c =
       rising = c.requires.rising;
       layers = subst (λ (ls : List Layer). AllOver index.cuts.items ls) (sym is)
           (over_raised index.cuts.items n reach c.args.past mid.items new raised (over_pushed index.cuts.items c.first_of.result index.layers.items mid.items pushed c.requires.layers));
-      touched = over_grew index.cuts.items index.touched c.raise.new.self c.raise.ensures.tree c.raise.ensures.grew c.requires.touched;
-      written = over_grew index.cuts.items index.written c.raise_if.new.tree c.raise_if.ensures.tree c.raise_if.ensures.grew c.requires.written;
+      touched = over_grew index.cuts.items index.touched c.raise_if.new.tree c.raise_if.ensures.tree c.raise_if.ensures.grew c.requires.touched;
+      written = over_grew index.cuts.items index.written c.raise_if-2.new.tree c.raise_if-2.ensures.tree c.raise_if-2.ensures.grew c.requires.written;
     }
 
 pub returns-clause-grew : goal.returns-clause-grew
@@ -45,8 +46,9 @@ returns-clause-grew c =
           (still_there c.first_of.result c.width_of-width.result n reach c.args.past index.layers.items mid.items new c.in_ok-n.ensures.pushed raised k l e);
       lasts = λ k l e.
           was_there c.first_of.result c.width_of-width.result n reach c.args.past index.layers.items mid.items new c.in_ok-n.ensures.pushed raised k l (ap (λ ls. slice_get ls k) (sym is) ∙ e);
-      touched = c.raise.ensures.grew;
-      written = c.raise_if.ensures.grew;
+      hosted = refl;
+      touched = c.raise_if.ensures.grew;
+      written = c.raise_if-2.ensures.grew;
     }
 
 pub returns-clause-noted : goal.returns-clause-noted
@@ -55,7 +57,6 @@ returns-clause-noted c =
     let raised : AreRaisedAt n reach c.args.past mid.items new = subst (λ (ls : List Layer). AreRaisedAt n reach c.args.past ls new) c.deref_mut.ensures.value c.raise_layer.ensures.raised in
     let is : (with_items mid new).items ≡ new = with_items_is mid new (c.raise_layer.ensures.len ∙ c.deref_mut.ensures.len) in
     let layer : HasLayer new n c.first_of.result reach c.args.past = layer_raised c.first_of.result n reach c.args.past mid.items new c.in_ok-n.ensures.there raised in
-    let touched_width = c.raise.ensures.grew.width in
     record {
       number = n;
       layer = layer.layer;
@@ -64,6 +65,9 @@ returns-clause-noted c =
       reach = reach;
       reaches = subst (λ (cuts : List Cut). IsReach cuts c.args.t.now.range reach) c.deref.ensures.value c.reach_of-reach.ensures;
       marked = layer.noted;
-      touched = λ i from to within. c.raise.ensures.noted i from to (omega (arith, within, touched_width));
-      written = λ w. c.raise_if.ensures.noted (c.writes.ensures ∙ w);
+      touched = λ on. c.raise_if.ensures.noted on;
+      written = λ on w. c.raise_if-2.ensures.noted (elim c.if-hosted.branch [
+        | then-hosted b ↦ b.raise_if-is ∙ (b.writes.ensures ∙ w)
+        | else-hosted b ↦ cc (on, b.if-hosted.false)
+      ]);
     }

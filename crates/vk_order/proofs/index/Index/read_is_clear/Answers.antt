@@ -10,7 +10,8 @@ returns c = λ _.
     record {
       reach = c.reach_of-reach.result;
       reaches = subst (λ (cuts : List Cut). IsReach cuts c.args.range.now c.reach_of-reach.result) c.deref.ensures.value c.reach_of-reach.ensures;
-      finished = λ i n from to within mark. let k = c.greatest.ensures i n from to within mark in let l = c.if-greatest-at.false in omega (arith, k, l);
+      hosted = c.if-not-self.false;
+      finished = c.are_before.ensures c.if-not-are_before.false;
       layers = λ n l e.
           let w = slice_get_within index.layers.items n l e in let end = c.loop-n-test.false in let len = c.len-n-end.ensures in let ok = index.layers.ok.0 in
           c.loop-n.invariant n l (omega (arith, w, end, len, ok)) e;
