@@ -45,13 +45,12 @@ stops_fields (Counted n) body = stops_numbers (words_of n body) _ (stops_field (
 stops_fields Tokens body = stops_numbers (words_of 1 body) _ (stops_field (drop 4 body))
 stops_fields Free body = stops_field body
 
--- the first word of a record's line
-pub context_word : (f : Frame) (text word rest : List ℕ) → IsRecord f → Cut 32 text word rest → text ≡ bare_line f → (word ≡ decimal f.context) × ((p : Parts f) → rest ≡ 32 ∷ (p.kind_is.name ++ fields p.kind_is.layout f.body))
-context_word f text word rest r cut e =
-    let p = parts_of f r in
-    let lt = r.frame.context_fits in
-    let one = λ (q : Parts f). same_cut 32 word (decimal f.context) rest (32 ∷ (q.kind_is.name ++ fields q.kind_is.layout f.body)) cut.lacks (Lacks-decimal 32 f.context (inl (omega arith)) (omega arith)) cut.stops refl (sym cut.spelled ∙ e ∙ q.spelled) in
-    ((one p).0, λ q. (one q).1)
+-- what stands behind the first word of a record's line
+pub behind_context : (f : Frame) (p : Parts f) (context : ℕ) (text rest : List ℕ) → IsRecord f → context < 2 ^ 16 → StopsAt 32 rest → text ≡ decimal context ++ rest → text ≡ bare_line f
+    → rest ≡ 32 ∷ (p.kind_is.name ++ fields p.kind_is.layout f.body)
+behind_context f p context text rest r lt stops is e =
+    let fits = r.frame.context_fits in
+    (same_cut 32 (decimal context) (decimal f.context) rest (32 ∷ (p.kind_is.name ++ fields p.kind_is.layout f.body)) (Lacks-decimal 32 context (inl (omega arith)) (omega arith)) (Lacks-decimal 32 f.context (inl (omega arith)) (omega arith)) stops refl (sym is ∙ e ∙ p.spelled)).1
 
 -- the second word, and the fields
 pub name_word : (f : Frame) (p : Parts f) (text name rest : List ℕ) → Cut 32 text name rest → text ≡ p.kind_is.name ++ fields p.kind_is.layout f.body
@@ -69,10 +68,10 @@ layout_word f p k is e =
     ap (λ (j : Kind). j.layout) (some_same p.kind_is k (kind_numbered f.kind) p.is (ap kind_numbered (sym same) ∙ is))
 
 -- the record of a line that was read
-pub record_read : (k : Kind) (context : ℕ) (body text word rest more name field old new : List ℕ) → context < 2 ^ 16
-    → Cut 32 text word rest → word ≡ decimal context → rest ≡ 32 ∷ more → Cut 32 more name field → kind_numbered k.number ≡ Some k → k.name ≡ name → ReadsBody k.layout field body
+pub record_read : (k : Kind) (context : ℕ) (body text rest more name field old new : List ℕ) → context < 2 ^ 16
+    → text ≡ decimal context ++ rest → rest ≡ 32 ∷ more → Cut 32 more name field → kind_numbered k.number ≡ Some k → k.name ≡ name → ReadsBody k.layout field body
     → new ≡ old ++ spell (record { kind = k.number; context = context; body = body }) → ReadsLine text old new
-record_read k context body text word rest more name field old new lt first is blank second known named b put = record {
+record_read k context body text rest more name field old new lt first blank second known named b put = record {
   frame = record { kind = k.number; context = context; body = body };
   is_record = record {
     frame = record {
@@ -84,7 +83,7 @@ record_read k context body text word rest more name field old new lt first is bl
     bytes = b.shaped.bytes;
   };
   spelled =
-      first.spelled ∙ ap (λ (l : List ℕ). l ++ rest) is
+      first
       ∙ ap (λ (l : List ℕ). decimal context ++ l) (blank ∙ ap (λ (l : List ℕ). 32 ∷ l) (second.spelled ∙ ap (λ (l : List ℕ). l ++ field) (sym named) ∙ ap (λ (l : List ℕ). k.name ++ l) b.spelled))
       ∙ ap (λ (o : Option Kind). decimal context ++ name_and_fields o body) (sym known);
   put = put;

@@ -8,15 +8,9 @@ use Rattle.byteorder.specs.Endian.{little_bytes}
 use Rattle.call_log.specs.Put.{AreWords, spell_words}
 use Rattle.log_text.specs.LogText.{number_field}
 use Rattle.log_text.specs.Reading.{ReadsNumbers}
-use Rattle.text_words.specs.Words.{StopsAt, Cut}
+use Rattle.text_words.specs.Words.{StopsAt}
 use Rattle.text_words.proofs.Cutting.{same_cut}
 use Rattle.text_words.proofs.Digits.{Lacks-decimal}
-
--- the word that stands in front of a number's fields
-pub word_is : (text word behind : List ℕ) (w : ℕ) (rest : List ℕ) → Cut 32 text word behind → w < 2 ^ 32 → StopsAt 32 rest → text ≡ decimal w ++ rest
-    → (word ≡ decimal w) × (behind ≡ rest)
-word_is text word behind w rest cut lt stops e =
-    same_cut 32 word (decimal w) behind rest cut.lacks (Lacks-decimal 32 w (inl (omega arith)) (omega arith)) cut.stops stops (sym cut.spelled ∙ e)
 
 pub one_number : (text rest old new : List ℕ) (n : ℕ) → n < 2 ^ 32 → text ≡ number_field n ++ rest → new ≡ old ++ little_bytes 4 n → ReadsNumbers 1 text rest old new
 unfolding spell_words

@@ -10,7 +10,7 @@ ghost use Rattle.text_words.specs.Words.{AreBytes, StopsAt, lower};
 use crate::text_end::Stop;
 use byteorder::{ByteOrder, LittleEndian};
 use call_log::Layout;
-use text_words::{behind, cut, is_lower, read_u32};
+use text_words::{behind, is_lower, u32_to};
 
 /// Reads a line's fields and puts the body that they spell. Anything may stand behind `log` where they spell none.
 pub(crate) fn read_fields(layout: Layout, text: &[u8], log: &mut Vec<u8>) -> Result<(), Stop>
@@ -86,8 +86,7 @@ fn read_number<'a>(text: &'a [u8], log: &mut Vec<u8>) -> Result<&'a [u8], Stop>
     let Some(fields) = behind(b' ', text) else {
         return Err(Stop::Bad);
     };
-    let (word, rest) = cut(fields, b' ');
-    let Some(number) = read_u32(word) else {
+    let Some((number, rest)) = u32_to(b' ', fields) else {
         return Err(Stop::Bad);
     };
     put_word(log, number)?;

@@ -8,7 +8,7 @@ use crate::fields::read_fields;
 use crate::text_end::{Stop, TextEnd};
 use call_log::{Layout, close_record, kind_named, open_record, put_end, put_header};
 use std::alloc::Global;
-use text_words::{behind, cut, next_line, read_u16};
+use text_words::{behind, cut, next_line, u16_to};
 
 const FIRST_LINE: [u8; 6] = *b"d3l1 1";
 
@@ -58,8 +58,7 @@ fn put_line(log: &mut Vec<u8>, text: &[u8]) -> Result<(), Stop>
     ensures found { OnOk result (ReadsLine text.now log.old.items log.new.items) }
     ensures bad { IfErr result (λ e. WhenBad e ((f : Frame) → IsRecord f → text.now ≡ bare_line f → ⊥)) }
 {
-    let (word, rest) = cut(text, b' ');
-    let Some(context) = read_u16(word) else {
+    let Some((context, rest)) = u16_to(b' ', text) else {
         return Err(Stop::Bad);
     };
     let Some(rest) = behind(b' ', rest) else {

@@ -1,6 +1,7 @@
 -- The words of a text.
-use Rattle.std.specs.Prelude.{◌≡◌, ℕ, ◌<◌, ◌==◌, nat_le, Bool, true, not, ◌&&◌, ◌||◌, ⊤, Option, List, [], ◌∷◌, ◌++◌, length, MatchOption}
+use Rattle.std.specs.Prelude.{◌≡◌, ℕ, ◌+◌, ◌-◌, ◌*◌, ◌<◌, nat_le, Bool, true, not, ◌&&◌, ⊤, Option, List, [], ◌∷◌, ◌++◌, MatchOption}
 use Rattle.std.specs.List.{AllByRecursion}
+use Rattle.std.specs.Str.{all_ascii_digits}
 
 -- Each number is a byte.
 abbrev pub AreBytes : List ℕ → Type 0
@@ -22,10 +23,18 @@ pub record Cut (c : ℕ) (whole front behind : List ℕ) : Type 0 where
   pub lacks : Lacks c front
   pub stops : StopsAt c behind
 
--- A word begins with no sign, and with a zero only where it is the zero.
-abbrev pub plain : List ℕ → Bool
-plain [] = true
-plain (x ∷ xs) = not (x == 43) && (not (x == 48) || length xs == 0)
+-- The number that digits go on to write, behind those that write a first number.
+abbrev pub read_on : ℕ → List ℕ → ℕ
+read_on n [] = n
+read_on n (c ∷ cs) = read_on (10 * n + (c - 48)) cs
+
+-- Digits stand in front of a text, and write n behind those of a first number; then the text ends, or the stop stands there.
+pub record GoesOn (stop first : ℕ) (text : List ℕ) (n : ℕ) (rest : List ℕ) : Type 0 where
+  pub digits : List ℕ
+  pub are : all_ascii_digits digits ≡ true
+  pub is : read_on first digits ≡ n
+  pub spelled : text ≡ digits ++ rest
+  pub stops : StopsAt stop rest
 
 -- No byte is a capital letter.
 abbrev pub lower : List ℕ → Bool

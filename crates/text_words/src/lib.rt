@@ -6,5 +6,5 @@ mod decimal;
 mod hexadecimal;
 
 pub use cuts::{behind, cut, next_line};
-pub use decimal::{read_u8, read_u16, read_u32, read_u64};
+pub use decimal::{read_u8, read_u32, read_u64, u16_to, u32_to};
 pub use hexadecimal::is_lower;

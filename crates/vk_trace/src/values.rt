@@ -5,7 +5,7 @@ ghost use Rattle.vk_types.specs.declared.access.Access.{Access};
 ghost use Rattle.vk_types.specs.declared.command.SlotName.{SlotName};
 ghost use Rattle.vk_trace.specs.ListText.{IsSmall, IsWide, block_word, shader_word, range_word, hex_word, access_word, slot_word, second_word, FitsSecond, size, slot_number, slot_rank};
 ghost use Rattle.vk_trace.specs.Reading.{IsReadRange};
-ghost use Rattle.text_words.specs.Words.{IsRead, plain, lower};
+ghost use Rattle.text_words.specs.Words.{IsRead, lower};
 
 use crate::words::is;
 use dx_types::Range;
