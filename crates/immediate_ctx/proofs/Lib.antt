@@ -1,5 +1,12 @@
+pub mod Asking
 pub mod Counting
+pub mod Ending
+pub mod Fitting
+pub mod Growing
 pub mod Held
 pub mod OnTheWay
+pub mod Playing
+pub mod Recording
 pub mod StandingFlight
 pub mod Turning
+pub mod Using

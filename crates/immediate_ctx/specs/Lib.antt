@@ -5,5 +5,8 @@ pub mod Tables
 pub mod ClassBlocks
 pub mod Staging
 pub mod OpenChunk
+pub mod Readback
+pub mod Buffers
 pub mod AppState
+pub mod Items
 pub mod Stands

@@ -1,4 +1,4 @@
-ghost use Rattle.std.specs.Prelude.{◌≡◌, ◌<◌, ◌↔◌, ◌||◌, [], length, map, suc, IsTrue, OnOk, OnErr};
+ghost use Rattle.std.specs.Prelude.{◌≡◌, ◌+◌, ◌<◌, ◌↔◌, ◌||◌, [], length, map, suc, IfOk, IsTrue, OnOk, OnErr};
 ghost use Rattle.std.specs.List.{list_all, list_any};
 ghost use Rattle.immediate_ctx.specs.Flight.{Fits, IsPostOf, TakesFirst, awaited, is_snapped, last_upto, uses_block, view_of, with_sent, open_number};
 ghost use Rattle.core_model.specs.OtherParts.{is_among};
@@ -64,6 +64,27 @@ impl Flight {
         ensures { result ≡ self.now.done }
     {
         self.done
+    }
+
+    /// The number of the chunk that was handed over last; 0 before the first. A want of memory where there is none.
+    pub fn handed(&self) -> Result<ChunkNo, AllocError>
+        ensures { IfOk result (λ n. n ≡ self.now.taken + length self.now.kept) }
+    {
+        match self.taken.checked_add(self.kept.len() as u64) {
+            Some(number) => Ok(number),
+            None => Err(AllocError),
+        }
+    }
+
+    /// The number of the open chunk, which is the next to be handed over. A want of memory where there is none.
+    pub fn next(&self) -> Result<ChunkNo, AllocError>
+        ensures { IfOk result (λ n. n ≡ open_number self.now) }
+    {
+        let handed = self.handed()?;
+        match handed.checked_add(1) {
+            Some(number) => Ok(number),
+            None => Err(AllocError),
+        }
     }
 
     /// The last call of the chunk that was handed over last; 0 before the first.

@@ -1,14 +1,17 @@
-ghost use Rattle.std.specs.Prelude.{◌≡◌, ◌≤◌, [], false, IfOk, OnOk};
-ghost use Rattle.cs_chunk.specs.Chunk.{entries_of, pages_of};
-ghost use Rattle.immediate_ctx.specs.Due.{is_due_by, is_full_by, no_counts};
-ghost use Rattle.immediate_ctx.specs.Flight.{view_of};
-ghost use Rattle.buffer_blocks.specs.declared.block.Block.{Block};
+ghost use Rattle.std.specs.Prelude.{◌≡◌, ◌≤◌, false, length, map, IfOk, OnOk, None};
 ghost use Rattle.std.specs.Option.{option_map};
-ghost use Rattle.immediate_ctx.specs.OpenChunk.{once_more, placed_of, staged_by, with_entry, with_use};
 ghost use Rattle.dx_types.specs.declared.limits.TheConstants.{MAX_BUFFER_SIZE};
+ghost use Rattle.buffer_blocks.specs.declared.block.Block.{Block};
+ghost use Rattle.cs_chunk.specs.Chunk.{entries_of, pages_of};
+ghost use Rattle.chunk_parts.specs.Chunks.{placed_of};
+ghost use Rattle.immediate_ctx.specs.Due.{is_due_by, is_full_by};
+ghost use Rattle.immediate_ctx.specs.Flight.{view_of};
+ghost use Rattle.immediate_ctx.specs.OpenChunk.{nothing_filled, once_more, staged_by, with_entry, with_use, without};
+ghost use Rattle.immediate_ctx.specs.Staging.{Stages, put_by};
 
 use crate::counts::Counts;
 use crate::flight::{Sent, is_among};
+use crate::staging::Staging;
 use buffer_blocks::Block;
 use cs_chunk::{Chunk, Entry};
 use dx_types::{BlockNo, CallNo, ChunkNo, Range};
@@ -16,7 +19,7 @@ use std::alloc::{AllocError, Global};
 use std::marker::Model;
 use vk_types::Placed;
 
-/// The open chunk, with what is kept of it once it is handed over.
+/// The open chunk, with what is kept of it once it is handed over. It has its number from then on.
 #[derive(Drop)]
 pub struct OpenChunk {
     chunk: Chunk,
@@ -27,26 +30,29 @@ pub struct OpenChunk {
 }
 
 impl Model for OpenChunk {
-    ghost use Rattle.std.specs.Prelude.{◌≡◌, length};
-    ghost use Rattle.cs_chunk.specs.Chunk.{entries_of};
-    ghost use Rattle.immediate_ctx.specs.OpenChunk.{Open};
+    ghost use Rattle.cs_chunk.specs.Chunk.{entries_of, pages_of};
+    ghost use Rattle.immediate_ctx.specs.OpenChunk.{Filled, IsKept};
 
-    ghost Value = { Open };
+    ghost Value = { Filled };
 
-    ghost view = { λ o. record { chunk = o.chunk; counts = o.counts; placed = o.placed.items; used = o.used.items; named = o.named.items } };
+    ghost view = { λ o. record {
+      entries = entries_of o.chunk;
+      pages = pages_of o.chunk;
+      counts = o.counts;
+      placed = o.placed.items;
+      used = o.used.items;
+      named = o.named.items;
+    } };
 
-    ghost invariant = { λ o. length (entries_of o.chunk) ≡ o.counts.entries };
+    ghost invariant = { λ o. IsKept (entries_of o.chunk) o.counts.entries o.placed.items };
 }
 
 impl OpenChunk {
-    /// A chunk of this number without entries.
-    pub fn new(alloc: Global, number: ChunkNo) -> Result<OpenChunk, AllocError>
-        ensures number { IfOk result (λ o. o.chunk.number ≡ number) }
-        ensures entries { IfOk result (λ o. entries_of o.chunk ≡ []) }
-        ensures pages { IfOk result (λ o. pages_of o.chunk ≡ []) }
-        ensures kept { IfOk result (λ o. o ≡ record { chunk = o.chunk; counts = no_counts; placed = []; used = []; named = [] }) }
+    /// A chunk without entries.
+    pub fn new(alloc: Global) -> Result<OpenChunk, AllocError>
+        ensures { IfOk result (λ o. o ≡ nothing_filled) }
     {
-        let chunk = Chunk::new(alloc, number)?;
+        let chunk = Chunk::new(alloc, 0)?;
         Ok(OpenChunk {
             chunk,
             counts: Counts::new(),
@@ -70,6 +76,15 @@ impl OpenChunk {
         }
     }
 
+    /// Stages bytes for an entry, and gives the range where they stand.
+    pub fn stage(&mut self, staging: &mut Staging, bytes: &[u8]) -> Result<Range, AllocError>
+        requires { length bytes.now ≤ MAX_BUFFER_SIZE }
+        ensures pages { IfOk result (λ r. Stages bytes.now staging.old self.old.pages r staging.new self.new.pages) }
+        ensures rest { OnOk result (self.new ≡ record self.old { pages = self.new.pages }) }
+    {
+        staging.stage(&mut self.chunk, bytes)
+    }
+
     /// Whether the chunk is due. `in_list`: a list is running. `stops`: an accepted readback, question or flush comes next, or
     /// nothing.
     pub fn is_due(&self, in_list: bool, stops: bool) -> bool
@@ -86,10 +101,29 @@ impl OpenChunk {
         add_once(&mut self.named, block)
     }
 
-    /// The chunk is handed over, up to this call: the chunk, and what is kept of it.
-    pub fn close(self, upto: CallNo) -> (Chunk, Sent)
-        ensures chunk { result.0 ≡ record self.chunk { upto = upto } }
-        ensures sent { view_of result.1 ≡ record { upto = upto; placed = self.placed; used = self.used; named = self.named } }
+    /// The buffer of the block is destroyed: the chunk doesn't name it any more.
+    pub fn destroys(&mut self, block: BlockNo)
+        ensures { self.new ≡ record self.old { named = without block self.old.named } }
+    {
+        self.named.retain(|b| *b != block);
+    }
+
+    /// The chunk is handed over, with this number and up to this call, and with the newest page behind its others: the chunk, and
+    /// what is kept of it.
+    pub fn close(
+        self,
+        staging: &mut Staging,
+        number: ChunkNo,
+        upto: CallNo,
+    ) -> Result<(Chunk, Sent), AllocError>
+        ensures number { IfOk result (λ r. r.0.number ≡ number) }
+        ensures upto { IfOk result (λ r. r.0.upto ≡ upto) }
+        ensures entries { IfOk result (λ r. entries_of r.0 ≡ self.entries) }
+        ensures places { IfOk result (λ r. map placed_of (entries_of r.0) ≡ self.placed) }
+        ensures pages { IfOk result (λ r. pages_of r.0 ≡ put_by self.pages staging.old.newest) }
+        ensures kept { IfOk result (λ r. view_of r.1
+            ≡ record { upto = upto; placed = self.placed; used = self.used; named = self.named }) }
+        ensures staging { OnOk result (staging.new ≡ record staging.old { newest = None }) }
     {
         let OpenChunk {
             mut chunk,
@@ -98,6 +132,8 @@ impl OpenChunk {
             used,
             named,
         } = self;
+        staging.close(&mut chunk)?;
+        chunk.number = number;
         chunk.upto = upto;
         let sent = Sent {
             upto,
@@ -105,7 +141,7 @@ impl OpenChunk {
             used,
             named,
         };
-        (chunk, sent)
+        Ok((chunk, sent))
     }
 }
 

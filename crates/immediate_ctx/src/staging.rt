@@ -58,7 +58,7 @@ impl Staging {
     pub fn stage(&mut self, chunk: &mut Chunk, bytes: &[u8]) -> Result<Range, AllocError>
         requires { length bytes.now ≤ MAX_BUFFER_SIZE }
         ensures pages { IfOk result (λ r. Stages bytes.now self.old (pages_of chunk.old) r self.new (pages_of chunk.new)) }
-        ensures chunk { OnOk result (chunk.new ≡ with_pages chunk.old (pages_of chunk.new)) }
+        ensures chunk { chunk.new ≡ with_pages chunk.old (pages_of chunk.new) }
     {
         if !self.has_room(bytes.len() as u64) {
             self.turn_page(chunk, bytes.len() as u64)?;
@@ -70,6 +70,7 @@ impl Staging {
     pub fn close(&mut self, chunk: &mut Chunk) -> Result<(), AllocError>
         ensures pool { OnOk result (self.new ≡ record self.old { newest = None }) }
         ensures chunk { OnOk result (chunk.new ≡ with_pages chunk.old (put_by (pages_of chunk.old) self.old.newest)) }
+        ensures err { OnErr result (chunk.new ≡ chunk.old) }
     {
         if let Some(page) = self.newest.take() {
             chunk.put_page(page)?;
@@ -110,7 +111,7 @@ impl Staging {
     fn turn_page(&mut self, chunk: &mut Chunk, len: u64) -> Result<(), AllocError>
         requires { len ≤ MAX_BUFFER_SIZE }
         ensures turned { OnOk result ((page : PageState) × TurnsPage len self.old (pages_of chunk.old) page self.new (pages_of chunk.new) × Fits len page) }
-        ensures chunk { OnOk result (chunk.new ≡ with_pages chunk.old (pages_of chunk.new)) }
+        ensures chunk { chunk.new ≡ with_pages chunk.old (pages_of chunk.new) }
     {
         self.close(chunk)?;
         let page = self.pages.next(self.next, len)?;
