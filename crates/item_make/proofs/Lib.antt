@@ -2,3 +2,4 @@ pub mod Played
 pub mod Naming
 pub mod Staging
 pub mod Makers
+pub mod Calls

@@ -1,8 +1,7 @@
 -- What a play makes, by what the stream and the parts are after it.
-use Rattle.std.proofs.Common.{◌≡◌, ℕ, ◌+◌, Bool, true, false, cond, List, [], ◌∷◌, ◌++◌, length, Option, Some, None}
-use Rattle.std.proofs.Common.{refl, sym, ap, ◌∙◌, subst, zero-add}
+use Rattle.std.proofs.Common.{◌≡◌, ℕ, ◌+◌, Bool, true, false, cond, List, [], ◌∷◌, length, Option, Some, None}
+use Rattle.std.proofs.Common.{refl, sym, ap, subst, zero-add}
 use Rattle.dx_types.specs.declared.range.Range.{Range}
-use Rattle.dx_types.specs.declared.range.ResRange.{ResRange}
 use Rattle.dx_types.specs.declared.range.Span.{Span}
 use Rattle.vk_types.specs.declared.command.Work.{Work}
 use Rattle.vk_types.specs.declared.command.Work.TheVariants as work
@@ -11,7 +10,7 @@ use Rattle.vk_types.specs.declared.message.Placed.{Placed}
 use Rattle.vk_types.specs.Memory.{range}
 use Rattle.core_model.specs.Adding.{without_block}
 use Rattle.core_model.specs.Batching.{Made, make_write, make_command, give_block, make_staged, block_range, make_play}
-use Rattle.core_model.specs.Renaming.{BlockMap, range_on, work_on, cond_on}
+use Rattle.core_model.specs.Renaming.{range_on, work_on, cond_on}
 use Rattle.core_model.specs.Script.{Script, Play, Create, Discard, Stage, Command, Destroy, Set_state, No_overwrite}
 use Rattle.core_model.specs.Succession.{IsStagedRange}
 use Rattle.d3d_model.specs.Binding.{Predicate}
@@ -38,6 +37,9 @@ writes_go_on r (b ∷ bs) m s h = h
 module _ (part : Span → List ℕ) (script : Script) (call : ℕ) (p : Placed) (s : Stream) (q : Parts) where
   abbrev Plays : Made → Play → Type 0
   Plays m play = Makes part (make_play script call play [] p m) s q
+
+  pub plays_as : (m : Made) (x y : Play) → x ≡ y → Plays m x → Plays m y
+  plays_as m x y e h = subst (Plays m) e h
 
   pub if_play : (m : Made) (b : Bool) (x y : Play) → b ≡ true → Plays m x → Plays m (cond b x y)
   if_play m b x y e h = subst (λ (t : Bool). Plays m (cond t x y)) (sym e) h

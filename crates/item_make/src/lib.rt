@@ -4,6 +4,7 @@
 mod bound;
 mod commands;
 mod laws;
+mod plays;
 mod queries;
 mod staged;
 mod writes;
@@ -11,6 +12,7 @@ mod writes;
 pub use bound::use_bound;
 pub use commands::{clear_view, copy_region, copy_whole, dispatch_counts, dispatch_groups};
 pub use laws::buffers_have_makers;
+pub use plays::play;
 pub use queries::mark_query;
 pub use staged::stage;
 pub use writes::{create, destroy, discard, overwrite_none};

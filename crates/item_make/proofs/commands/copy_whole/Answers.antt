@@ -1,7 +1,6 @@
 use Rattle.std.proofs.Common.{◌≡◌, ap, ◌∙◌}
 use Rattle.std.proofs.lemmas.Result.{on_ok_weaker}
 use Rattle.dx_types.specs.declared.range.Range.{Range}
-use Rattle.dx_types.specs.declared.range.ResRange.{ResRange}
 use Rattle.vk_types.specs.declared.command.Work.TheVariants as work
 use Rattle.core_model.specs.Renaming.{work_on}
 use Rattle.d3d_state.specs.Meaning.{objects_of}

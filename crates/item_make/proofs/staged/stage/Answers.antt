@@ -1,4 +1,4 @@
-use Rattle.std.proofs.Common.{Option, sym, ap, ◌∙◌, subst}
+use Rattle.std.proofs.Common.{Option, sym, ◌∙◌, subst}
 use Rattle.dx_types.specs.declared.range.Range.{Range}
 use Rattle.core_model.specs.Batching.{make_write}
 use Rattle.core_model.specs.Succession.{IsStagedRange}

@@ -1,4 +1,4 @@
-use Rattle.std.proofs.Common.{sym, ap, ◌∙◌}
+use Rattle.std.proofs.Common.{sym, ◌∙◌}
 use Rattle.log_script.specs.Makers.{maker}
 use Rattle.item_make.proofs.Naming.{gone_named}
 use Rattle.item_make.proofs.Played.{destroyed, destroyed_none}
