@@ -42,3 +42,5 @@ pub mod ByteEffects
 pub mod MemoryBytes
 pub mod GivenUp
 pub mod EndsInBlocks
+pub mod MadeCounts
+pub mod MarkedQueries

@@ -2,6 +2,7 @@
 use Rattle.std.specs.Prelude.{◌≡◌, ℕ, suc, Bool, false, List, [], ◌∷◌, ◌++◌, take}
 use Rattle.vk_types.specs.declared.command.Command.{Command}
 use Rattle.vk_types.specs.declared.message.Placed.{Placed}
+use Rattle.vk_types.specs.declared.message.QueryMark.{QueryMark}
 use Rattle.vk_types.specs.declared.op.VkOp.{VkOp}
 use Rattle.vk_types.specs.declared.op.VkOp.TheVariants as op
 use Rattle.vk_types.specs.BarrierCauses.{barrier_before, recent_after, least_writer, host_barrier, maybe_barrier}
@@ -47,3 +48,13 @@ ops_of script pss = ops_from script 1 pss nothing_made
 -- the blocks of staging buffers as batch k is made
 abbrev pub staging_at : Script → List (List Placed) → ℕ → ℕ → Bool
 staging_at script pss k = (made script (take k pss)).is_staging
+
+-- the marks of queries of the chunks from number k on, and of the first chunks, message behind message
+abbrev pub queries_from : Script → ℕ → List (List Placed) → Made → List QueryMark
+queries_from script k [] m = []
+queries_from script k (ps ∷ pss) m =
+    (make_turns script (chunk_turns script k) ps (next_chunk m)).queries
+    ++ queries_from script (suc k) pss (make_turns script (chunk_turns script k) ps (next_chunk m))
+
+abbrev pub queries_of : Script → List (List Placed) → List QueryMark
+queries_of script pss = queries_from script 1 pss nothing_made

@@ -21,7 +21,7 @@ pub use run_laws::{
 };
 pub use step_laws::first_choices_are_free;
 pub use succession_laws::{
-    batches_are_ordered, batches_keep_standing, messages_use_their_blocks, parts_keep_clear,
-    taken_blocks_are_apart, used_blocks_are_held,
+    batches_are_ordered, batches_keep_standing, messages_mark_queries, messages_use_their_blocks,
+    parts_keep_clear, taken_blocks_are_apart, used_blocks_are_held,
 };
 pub use worked::worked_logs;

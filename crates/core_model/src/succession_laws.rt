@@ -1,21 +1,26 @@
-ghost use Rattle.std.specs.Prelude.{◌≡◌, ℕ, suc, ◌≤◌, Bool, true, false, List, [], ◌∷◌, ◌++◌, length, Some};
+ghost use Rattle.std.specs.Prelude.{◌≡◌, ℕ, suc, ◌≤◌, Bool, true, false, List, [], ◌∷◌, ◌++◌, length, map};
+ghost use Rattle.std.specs.Prelude.{Some};
 ghost use Rattle.std.specs.List.{AllByRecursion};
 ghost use Rattle.vk_types.specs.Hazards.{touches, host_write_touch, lists_conflict};
 ghost use Rattle.vk_types.specs.Memory.{Memory};
 ghost use Rattle.vk_types.specs.declared.message.Placed.{Placed};
+ghost use Rattle.base_lemmas.specs.Lists.{Pairwise, numbers_from};
 ghost use Rattle.vk_types.specs.RunListing.{IsRunListing, SameOrder};
-ghost use Rattle.core_model.specs.Script.{Script};
+ghost use Rattle.core_model.specs.Script.{Turn, Script};
 ghost use Rattle.core_model.specs.Batching.{made, batch_ops};
 ghost use Rattle.core_model.specs.BatchActs.{batch_acts, run_acts};
-ghost use Rattle.core_model.specs.Chunking.{after_chunk};
+ghost use Rattle.core_model.specs.Chunking.{chunk_turns, upto, after_chunk};
 ghost use Rattle.core_model.specs.Stands.{Stands};
 ghost use Rattle.core_model.specs.Succession.{Head, Log, takes, stages_in, all_places, staged_ranges, places_in};
+ghost use Rattle.core_model.specs.Succession.{turns_upto, values_after};
 ghost use Rattle.core_model.specs.Adding.{length_of};
 ghost use Rattle.core_model.specs.Formed.{WorkIsFormed, CondIsFormed};
 ghost use Rattle.core_model.specs.Lawful.{IsLawful};
 ghost use Rattle.core_model.specs.Spine.{Succeeds, made_of, MayUse, IsInside, IsLong, IsHeldBy, holds_block, gives_up};
 ghost use Rattle.core_model.specs.Spine.{TakesUnheld, EndsInBlock};
-ghost use Rattle.core_model.specs.BatchOrder.{IsBatchListing, ops_of, staging_at};
+ghost use Rattle.core_model.specs.BatchOrder.{IsBatchListing, ops_of, staging_at, queries_of};
+ghost use Rattle.core_model.specs.OtherParts.{created, needed, is_among, values_between};
+ghost use Rattle.core_model.specs.Queries.{commands_in, marks_from, count_in_order, AreInTurn};
 
 /// The law of the batches of messages, whatever places these have. Their operations, batch behind batch, are a
 /// listing that has the barriers which its hazards cause and no others, numbers its submits and keeps each batch
@@ -162,4 +167,40 @@ pub fn parts_keep_clear()
         → AllByRecursion (λ command. lists_conflict (touches command) (host_write_touch written.range ∷ []) ≡ false)
         (made_of log (front ++ earlier ∷ [])).listed)
         (made_of log ((front ++ earlier ∷ mid) ++ here ∷ [])).writes }
+{}
+
+/// The law of queries and shaders in messages, in every succession: what messages play are the script's first turns. A
+/// message's commands have the next numbers, one after another. Its marks of queries are those that its items make in
+/// the script; those of all messages stand in turn, of one query a Begin and an End, a Begin first, and their calls
+/// rise. So the values that its completion has are what those Ends leave whose calls it finishes, by the counts that
+/// commands run in order. And what its dispatches run are shaders that its items created, or those of messages before
+/// it.
+pub fn messages_mark_queries()
+    ensures turns { (log : Log) (front : List Head) (here : Head) → Succeeds log (front ++ here ∷ [])
+        → (rest : List Turn) × (log.script.turns ≡ turns_upto log.script (suc (length front)) ++ rest) }
+    ensures numbers { (log : Log) (front : List Head) (here : Head) → Succeeds log (front ++ here ∷ [])
+        → map (λ command. command.number) (made_of log (front ++ here ∷ [])).listed
+        ≡ numbers_from (suc (commands_in (turns_upto log.script (length front))))
+        (commands_in (chunk_turns log.script (suc (length front)))) }
+    ensures marks { (log : Log) (front : List Head) (here : Head) → Succeeds log (front ++ here ∷ [])
+        → (made_of log (front ++ here ∷ [])).queries
+        ≡ marks_from (commands_in (turns_upto log.script (length front)))
+        (chunk_turns log.script (suc (length front))) }
+    ensures all { (log : Log) (front : List Head) (here : Head) → Succeeds log (front ++ here ∷ [])
+        → queries_of log.script (places_in (front ++ here ∷ []))
+        ≡ marks_from 0 (turns_upto log.script (suc (length front))) }
+    ensures in_turn { (log : Log) → IsLawful log.meaning log.script → (front : List Head) (here : Head)
+        → Succeeds log (front ++ here ∷ [])
+        → (query : ℕ) → AreInTurn query false (queries_of log.script (places_in (front ++ here ∷ []))) }
+    ensures calls { (log : Log) → IsLawful log.meaning log.script → (front : List Head) (here : Head)
+        → Succeeds log (front ++ here ∷ [])
+        → Pairwise (λ m k. m.call ≤ k.call) (queries_of log.script (places_in (front ++ here ∷ []))) }
+    ensures ends { (log : Log) (front : List Head) (here : Head) → Succeeds log (front ++ here ∷ [])
+        → values_after log.meaning log.script (suc (length front))
+        ≡ values_between (count_in_order log.meaning log.script) (upto log.script (length front))
+        (upto log.script (suc (length front))) [] (queries_of log.script (places_in (front ++ here ∷ []))) }
+    ensures shaders { (log : Log) → IsLawful log.meaning log.script → (front : List Head) (here : Head)
+        → Succeeds log (front ++ here ∷ [])
+        → AllByRecursion (λ shader. is_among shader (created (turns_upto log.script (suc (length front)))) ≡ true)
+        (needed (made_of log (front ++ here ∷ [])).listed) }
 {}

@@ -54,3 +54,4 @@ pub mod BoundLaws
 pub mod LawfulTurns
 pub mod LawfulScripts
 pub mod LogBytes
+pub mod ReadBytes

@@ -1,5 +1,6 @@
-ghost use Rattle.std.specs.Prelude.{List};
+ghost use Rattle.std.specs.Prelude.{ℕ, List};
 ghost use Rattle.call_log.specs.Call.{Issued};
+ghost use Rattle.call_log.specs.Grammar.{Frame, IsLog, AreBytes, calls_of};
 ghost use Rattle.core_model.specs.CoreState.{Core};
 ghost use Rattle.core_model.specs.HostBytes.{HasBytes, IsOfBytes};
 ghost use Rattle.core_model.specs.Lawful.{IsLawful};
@@ -15,8 +16,11 @@ pub fn scripts_are_lawful()
 {}
 
 /// Where the data of a log's calls are bytes, as a log's format has them, so is what the host writes of its script's
-/// items, and so is the device's memory, in every state that steps reach, in each reading and by any choices.
+/// items, and so is the device's memory, in every state that steps reach, in each reading and by any choices. The
+/// calls of each log that is read from bytes have such data.
 pub fn scripts_have_bytes()
+    ensures read { (bytes : List ℕ) (frames : List Frame) → IsLog bytes frames → AreBytes bytes
+        → LogHasBytes (calls_of frames) }
     ensures items { (log : List Issued) → LogHasBytes log → HasBytes (script_of log) }
     ensures memory { (log : List Issued) → LogHasBytes log → (reading : Reading) (core : Core)
         → IsReached (meaning_of log) reading (script_of log) core

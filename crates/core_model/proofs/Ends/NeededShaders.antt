@@ -40,7 +40,7 @@ created_append (x ∷ xs) ys = ap (λ l. created_by x ++ l) (created_append xs y
 pub among_front : (n : ℕ) (xs ys : List ℕ) → is_among n xs ≡ true → is_among n (xs ++ ys) ≡ true
 among_front n xs ys h = list_any-append (λ m. m == n) xs ys ∙ or_left (is_among n xs) (is_among n ys) h
 
-needed_append : (xs ys : List c.Command) → needed (xs ++ ys) ≡ needed xs ++ needed ys
+pub needed_append : (xs ys : List c.Command) → needed (xs ++ ys) ≡ needed xs ++ needed ys
 needed_append [] ys = refl
 needed_append (x ∷ xs) ys = ap (λ l. shaders_of_work x.work ++ l) (needed_append xs ys)
     ∙ sym (append_assoc (shaders_of_work x.work) (needed xs) (needed ys))
@@ -116,7 +116,7 @@ one_more front ts t ns h =
     (subst (λ l. is_among n l ≡ true) (sym (created_append (front ++ ts) (t ∷ [])))
     (among_front n (created (front ++ ts)) (created (t ∷ [])) k))) ns h
 
-same_shaders : (blocks : BlockMap) (w : Work) → shaders_of_work (work_on blocks w) ≡ shaders_of_work w
+pub same_shaders : (blocks : BlockMap) (w : Work) → shaders_of_work (work_on blocks w) ≡ shaders_of_work w
 same_shaders blocks (work.Copy source target) = refl
 same_shaders blocks (work.Fill target word) = refl
 same_shaders blocks (work.Clear target words unit) = refl

@@ -53,7 +53,8 @@ handed_parts core =
     sym (append_assoc a (b ++ (c ++ d)) z
     ∙ ap (λ l. a ++ l) (append_assoc b (c ++ d) z ∙ ap (λ l. b ++ l) (append_assoc c d z)))
 
-pub in_middle : {A : Type 0} (P : A → Type 0) (xs : List A) (x : A) (ys : List A) → AllByRecursion P (xs ++ x ∷ ys) → P x
+pub in_middle : {A : Type 0} (P : A → Type 0) (xs : List A) (x : A) (ys : List A) → AllByRecursion P (xs ++ x ∷ ys)
+    → P x
 in_middle P [] x ys h = h.0
 in_middle P (z ∷ xs) x ys h = in_middle P xs x ys h.1
 
@@ -168,8 +169,8 @@ module _ (log : Log) (reading : Reading) (core : Core) (lawful : IsLawful log.me
 
   -- and what its commands touch, and what the host writes for it, ends inside blocks
   pub touches_end : Unheld core
-      → AllByRecursion (λ d. AllByRecursion (λ t. EndsInBlock log (heads (on_device core)) s.placed t.range) (touches d))
-      (device_commands s.commands)
+      → AllByRecursion (λ d. AllByRecursion (λ t. EndsInBlock log (heads (on_device core)) s.placed t.range)
+      (touches d)) (device_commands s.commands)
   touches_end unheld =
       subst (AllByRecursion (λ d. AllByRecursion (λ t. EndsInBlock log (heads (on_device core)) s.placed t.range)
       (touches d)))
@@ -213,7 +214,8 @@ module _ (log : Log) (reading : Reading) (core : Core) (lawful : IsLawful log.me
       omega (arith, a, b, c, d, f)
 
   -- what is left to run of a batch
-  left_have : (P : Touch → Type 0) → AllByRecursion (λ d. AllByRecursion P (touches d)) (device_commands r.segment.commands)
+  left_have : (P : Touch → Type 0)
+      → AllByRecursion (λ d. AllByRecursion P (touches d)) (device_commands r.segment.commands)
       → AllByRecursion (λ x. AllByRecursion P (act_touches x.act)) r.rest
   left_have P all =
       let shaped = accepted_shaped core k.good.sound.shaped front r back e in

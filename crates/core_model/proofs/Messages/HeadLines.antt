@@ -56,7 +56,7 @@ pub places_there : (script : Script) (k : ℕ) (hs : List Head) → places_of (c
 places_there script k [] = refl
 places_there script k (h ∷ hs) = ap (λ l. h.placed ∷ l) (places_there script (suc k) hs)
 
-turns_numbered : (script : Script) (k : ℕ) (hs : List Head)
+pub turns_numbered : (script : Script) (k : ℕ) (hs : List Head)
     → map (chunk_turns script) (numbers_from k (length hs)) ≡ turns_of (chunks_of script k hs)
 turns_numbered script k [] = refl
 turns_numbered script k (h ∷ hs) = ap (λ l. chunk_turns script k ∷ l) (turns_numbered script (suc k) hs)
@@ -70,7 +70,7 @@ heads_append script k (x ∷ xs) ys =
     ∙ ap (λ n. chunks_of script (suc k) xs ++ chunks_of script n ys)
     (let z : suc k + length xs ≡ k + length (x ∷ xs) = omega arith in z))
 
-one_longer : {A : Type 0} (xs : List A) (x : A) → length (xs ++ x ∷ []) ≡ suc (length xs)
+pub one_longer : {A : Type 0} (xs : List A) (x : A) → length (xs ++ x ∷ []) ≡ suc (length xs)
 one_longer xs x = let l = length-append xs (x ∷ []) in omega (arith, l)
 
 pub heads_last : (script : Script) (front : List Head) (h : Head)

@@ -104,7 +104,7 @@ module _ (meaning : Meaning) (script : Script) (low high : ℕ) where
       one : QueryMark → ℕ → List QueryValue
       one m v = record { call = m.call; query = m.query; value = v } ∷ []
 
-  ends_from : (ts front back : List Turn) (earlier : List QueryMark) → script.turns ≡ front ++ (ts ++ back)
+  pub ends_from : (ts front back : List Turn) (earlier : List QueryMark) → script.turns ≡ front ++ (ts ++ back)
       → Reached meaning script (commands_in front) earlier (in_order meaning script front at_start)
       → end_values meaning script low high ts (in_order meaning script front at_start)
       ≡ values_between f low high earlier (marks_from (commands_in front) ts)

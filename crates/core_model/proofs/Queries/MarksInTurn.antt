@@ -74,7 +74,7 @@ module _ (meaning : Meaning) (script : Script) (lawful : IsLawful meaning script
   in_turn_append q begun [] ys h k = k
   in_turn_append q begun (x ∷ xs) ys h k = (h.0, in_turn_append q (cond (x.query == q) x.begins begun) xs ys h.1 k)
 
-  in_turn_from : (ts front back : List Turn) → script.turns ≡ front ++ (ts ++ back) → (q : ℕ)
+  pub in_turn_from : (ts front back : List Turn) → script.turns ≡ front ++ (ts ++ back) → (q : ℕ)
       → AreInTurn q (is_begun q (marks_from 0 front) false) (marks_from (commands_in front) ts)
   in_turn_from [] front back e q = tt
   in_turn_from (t ∷ ts) front back e q =

@@ -27,7 +27,8 @@ use Rattle.log_script.specs.LogScript.{script_of}
 use Rattle.log_script.specs.Makers.{maker, bytes_from}
 use Rattle.log_script.specs.Plays.{skips, condition, predicated, staged, dispatch, clear, clears, copies, whole}
 use Rattle.log_script.specs.Plays.{counts_invocations, marks, maps, play_of, making_of}
-use Rattle.log_script.specs.Turns.{item_of, list_items, immediate_turns, turns_by_place, turns_unless, turns_in, turns_of}
+use Rattle.log_script.specs.Turns.{item_of, list_items, immediate_turns, turns_by_place, turns_unless, turns_in}
+use Rattle.log_script.specs.Turns.{turns_of}
 use Rattle.log_script.proofs.Owed.StayingFit.{all_append}
 use Rattle.log_script.proofs.Owed.EachTurn.{each_turn}
 use Rattle.log_script.proofs.Owed.RecordedCalls.{All, Recorded, recorded, of_list}
