@@ -3,3 +3,4 @@ pub mod Naming
 pub mod Staging
 pub mod Makers
 pub mod Calls
+pub mod Devices

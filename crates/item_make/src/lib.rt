@@ -4,6 +4,7 @@
 mod bound;
 mod commands;
 mod laws;
+mod makes;
 mod plays;
 mod queries;
 mod staged;
@@ -12,6 +13,7 @@ mod writes;
 pub use bound::use_bound;
 pub use commands::{clear_view, copy_region, copy_whole, dispatch_counts, dispatch_groups};
 pub use laws::buffers_have_makers;
+pub use makes::make;
 pub use plays::play;
 pub use queries::mark_query;
 pub use staged::stage;
