@@ -44,3 +44,4 @@ pub mod GivenUp
 pub mod EndsInBlocks
 pub mod MadeCounts
 pub mod MarkedQueries
+pub mod GivenOnce

@@ -1,4 +1,4 @@
-ghost use Rattle.std.specs.Prelude.{◌≡◌, ℕ, suc, ◌≤◌, Bool, true, false, List, [], ◌∷◌, ◌++◌, length, map};
+ghost use Rattle.std.specs.Prelude.{◌≡◌, ℕ, suc, ◌<◌, ◌≤◌, Bool, true, false, List, [], ◌∷◌, ◌++◌, length, map};
 ghost use Rattle.std.specs.Prelude.{Some};
 ghost use Rattle.std.specs.List.{AllByRecursion};
 ghost use Rattle.vk_types.specs.Hazards.{touches, host_write_touch, lists_conflict};
@@ -93,8 +93,8 @@ pub fn taken_blocks_are_apart()
 /// what the commands and the host writes of a message use that it accepted and did not complete, whatever it accepted
 /// behind it. The block of a buffer that lives has the length that the buffer wants: so the message took it that took
 /// it last. What a message gives up is held too, as the item gives it up by the items before, and by a device that
-/// accepted the message and did not complete it. And where no message took what a device held, what is not completed
-/// ends inside blocks as long as they were taken last.
+/// accepted the message and did not complete it. And where no message took what a device held, of those that are not
+/// completed no two give up one block, and what they do ends inside blocks as long as they were taken last.
 pub fn used_blocks_are_held()
     ensures held { (log : Log) (front : List Head) (here : Head) → Succeeds log (front ++ here ∷ [])
         → (buffer block : ℕ)
@@ -128,6 +128,11 @@ pub fn used_blocks_are_held()
         → (before : List Placed) (place : Placed) (after : List Placed) (block : ℕ)
         → here.placed ≡ before ++ place ∷ after → place.mark ≡ Some block
         → IsHeldBy (all_places (places_in front) ++ before) block }
+    ensures given_once { (log : Log) (front : List Head) (here : Head) (mid : List Head) (later : Head)
+        (back : List Head) → Succeeds log ((front ++ here ∷ mid) ++ later ∷ back)
+        → (completed : ℕ) → completed ≤ length front
+        → TakesUnheld completed (places_in ((front ++ here ∷ mid) ++ later ∷ back))
+        → (block : ℕ) → gives_up block here.placed ≡ true → gives_up block later.placed ≡ false }
     ensures commands_end { (log : Log) → IsLawful log.meaning log.script
         → (front : List Head) (here : Head) (back : List Head) → Succeeds log (front ++ here ∷ back)
         → (completed : ℕ) → completed ≤ length front → TakesUnheld completed (places_in (front ++ here ∷ back))
@@ -171,8 +176,9 @@ pub fn parts_keep_clear()
 
 /// The law of queries and shaders in messages, in every succession: what messages play are the script's first turns. A
 /// message's commands have the next numbers, one after another. Its marks of queries are those that its items make in
-/// the script; those of all messages stand in turn, of one query a Begin and an End, a Begin first, and their calls
-/// rise. So the values that its completion has are what those Ends leave whose calls it finishes, by the counts that
+/// the script: of calls that no message before it finishes, and behind the commands before it. Those of all messages
+/// stand in turn, of one query a Begin and an End, a Begin first, and neither their calls nor the numbers of the
+/// commands that they name fall. So the values that its completion has are what those Ends leave whose calls it finishes, by the counts that
 /// commands run in order. And what its dispatches run are shaders that its items created, or those of messages before
 /// it.
 pub fn messages_mark_queries()
@@ -195,6 +201,13 @@ pub fn messages_mark_queries()
     ensures calls { (log : Log) → IsLawful log.meaning log.script → (front : List Head) (here : Head)
         → Succeeds log (front ++ here ∷ [])
         → Pairwise (λ m k. m.call ≤ k.call) (queries_of log.script (places_in (front ++ here ∷ []))) }
+    ensures names { (log : Log) (front : List Head) (here : Head) → Succeeds log (front ++ here ∷ [])
+        → Pairwise (λ m k. m.before ≤ k.before) (queries_of log.script (places_in (front ++ here ∷ []))) }
+    ensures behind { (log : Log) (front : List Head) (here : Head) → Succeeds log (front ++ here ∷ [])
+        → AllByRecursion (λ m. (made_of log front).commands < m.before) (made_of log (front ++ here ∷ [])).queries }
+    ensures late { (log : Log) → IsLawful log.meaning log.script → (front : List Head) (here : Head)
+        → Succeeds log (front ++ here ∷ [])
+        → AllByRecursion (λ m. upto log.script (length front) < m.call) (made_of log (front ++ here ∷ [])).queries }
     ensures ends { (log : Log) (front : List Head) (here : Head) → Succeeds log (front ++ here ∷ [])
         → values_after log.meaning log.script (suc (length front))
         ≡ values_between (count_in_order log.meaning log.script) (upto log.script (length front))

@@ -1,31 +1,25 @@
 -- A device holds a block from the message that takes it to the one that gives it up, and a page for its one message;
 -- so it has what messages use that it did not complete.
-use Rattle.std.proofs.Common.{◌≡◌, ℕ, zero, suc, ◌≤◌, Bool, true, false, cond, not, ◌&&◌, ◌||◌, ◌==◌, List, []}
+use Rattle.std.proofs.Common.{◌≡◌, ℕ, zero, suc, ◌≤◌, Bool, true, false, not, ◌&&◌, ◌||◌, List, []}
 use Rattle.std.proofs.Common.{◌∷◌}
 use Rattle.std.proofs.Common.{◌++◌, length, take, drop, refl, sym, ap, ◌∙◌, subst, inl, inr, ◌⊎◌, Option, Some, None}
 use Rattle.std.proofs.Common.{arith}
 use Rattle.std.proofs.Common.{append_assoc, append-nil}
 use Rattle.std.specs.List.{list_any, AllByRecursion}
-use Rattle.std.proofs.lemmas.Bool.{cases_Bool, both_ways, or_cases, eqb-true}
+use Rattle.std.proofs.lemmas.Bool.{cases_Bool, both_ways, eqb-true}
 use Rattle.std.proofs.lemmas.List.Folds.{list_any-append}
 use Rattle.vk_types.specs.declared.message.Placed.{Placed}
 use Rattle.vk_types.specs.Hazards.{touches}
 use Rattle.base_lemmas.proofs.Lists.{all_map}
-use Rattle.core_model.specs.Script.{Play, Create, Discard, No_overwrite, Stage, Command, Destroy, Create_shader}
-use Rattle.core_model.specs.Script.{Mark_query, Set_state, Turn, Refused, Passed, Flushed, Asked, Item, Script, updated}
-use Rattle.core_model.specs.Chunking.{chunk_turns}
-use Rattle.core_model.specs.Renaming.{BlockMap}
 use Rattle.core_model.specs.Owners.{is_block}
 use Rattle.core_model.specs.Lawful.{IsLawful}
-use Rattle.core_model.specs.Succession.{Head, Log, PlacesPlay, takes, stages_in, all_places, places_in}
-use Rattle.core_model.specs.Spine.{Succeeds, made_of, gives_up, MayUse, has_place, held_done, holds_block}
+use Rattle.core_model.specs.Succession.{Head, Log, takes, stages_in, all_places, places_in}
+use Rattle.core_model.specs.Spine.{Succeeds, made_of, gives_up, MayUse, IsHeldBy, has_place, held_done}
+use Rattle.core_model.specs.Spine.{holds_block}
 use Rattle.core_model.proofs.Steps.Binding.{or_left, or_right}
-use Rattle.core_model.proofs.Steps.Destroying.{found}
-use Rattle.core_model.proofs.Messages.Placements.{GivesTo}
-use Rattle.core_model.proofs.Messages.HeadLines.{last_of}
 use Rattle.core_model.proofs.Messages.UsedBlocks.{message_uses}
 use Rattle.core_model.proofs.Messages.GivenUp.{gave_known, not_before}
-use Rattle.core_model.proofs.Messages.HeldBlocks.{IsApart, takes_more, taken_strange, taken_anew, holds_before}
+use Rattle.core_model.proofs.Messages.HeldBlocks.{IsApart, takes_more, holds_before}
 
 -- The message of an item --------------------------------------------------------------------------------------------
 
@@ -170,43 +164,46 @@ behind_done b (y ∷ front) x back (suc n) was h l = behind_done b front x back 
 pub fewer_heads : (log : Log) (front back : List Head) → Succeeds log (front ++ back) → Succeeds log front
 fewer_heads log front back s f y g e = s f y (g ++ back) (ap (λ l. l ++ back) e ∙ append_assoc f (y ∷ g) back)
 
-pub used_held : (log : Log) (front : List Head) (h : Head) (back : List Head) → Succeeds log (front ++ h ∷ back)
-    → (n : ℕ) → n ≤ length front
-    → (b : ℕ) → MayUse log front h b → holds_block n (places_in (front ++ h ∷ back)) b ≡ true
-used_held log front h back s n l b (inl t) = behind_done b front h back n false
-    (or_left (takes b h.placed) (stages_in b h.placed) t) l
-used_held log front h back s n l b (inr (inl t)) = behind_done b front h back n false
-    (or_right (takes b h.placed) (stages_in b h.placed) t) l
-used_held log front h back s n l b (inr (inr x)) =
-    let here : Succeeds log (front ++ h ∷ []) =
-    fewer_heads log (front ++ h ∷ []) back (subst (Succeeds log) (sym (append_assoc front (h ∷ []) back)) s) in
-    let holds = holds_before log front h here in
-    let y = holds.held x.0 b x.1 in
-    let m = in_message front y.front y.place y.back y.split in
+-- the message that took a held block: it gives it up no more, nor does one behind it
+pub record HeldMessage (hs : List Head) (b : ℕ) : Type 0 where
+  pub before : List Head
+  pub at : Head
+  pub behind : List Head
+  pub split : hs ≡ before ++ at ∷ behind
+  pub took : takes b at.placed ≡ true
+  pub kept : gives_up b at.placed ≡ false
+  pub later : gives_up b (all_places (places_in behind)) ≡ false
+
+pub held_message : (log : Log) (hs : List Head) → Succeeds log hs → (b : ℕ)
+    → AllByRecursion IsApart (all_places (places_in hs)) → IsHeldBy (all_places (places_in hs)) b → HeldMessage hs b
+held_message log hs s b apart y =
+    let m = in_message hs y.front y.place y.back y.split in
     let own : Succeeds log (m.before ++ m.at ∷ []) =
     fewer_heads log (m.before ++ m.at ∷ []) m.behind
-    (subst (Succeeds log) (m.split ∙ sym (append_assoc m.before (m.at ∷ []) m.behind))
-    (fewer_heads log front (h ∷ back) s)) in
+    (subst (Succeeds log) (m.split ∙ sym (append_assoc m.before (m.at ∷ []) m.behind)) s) in
     let clean = not_before log m.before m.at own m.first y.place m.rest b m.placed y.took in
     let parts : (gives_up b m.rest || gives_up b (all_places (places_in m.behind))) ≡ false =
     sym (list_any-append (λ q. is_block q.mark b) m.rest (all_places (places_in m.behind)))
     ∙ ap (gives_up b) (sym m.others) ∙ y.kept in
     let rest : gives_up b m.rest ≡ false = neither_left (gives_up b m.rest)
     (gives_up b (all_places (places_in m.behind))) parts in
-    let later : gives_up b (all_places (places_in m.behind)) ≡ false =
-    neither_right (gives_up b m.rest) (gives_up b (all_places (places_in m.behind))) parts in
-    let apart : is_block y.place.mark b ≡ false = elim (cases_Bool (is_block y.place.mark b)) [
-      | inl t ↦ absurd (at_place y.front y.place y.back (subst (AllByRecursion IsApart) y.split holds.apart) b
-          y.took (marked y.place.mark t))
+    let own_mark : is_block y.place.mark b ≡ false = elim (cases_Bool (is_block y.place.mark b)) [
+      | inl t ↦ absurd (at_place y.front y.place y.back (subst (AllByRecursion IsApart) y.split apart) b y.took
+          (marked y.place.mark t))
       | inr f ↦ f
     ] in
-    let none : gives_up b m.at.placed ≡ false =
-    ap (gives_up b) m.placed ∙ list_any-append (λ q. is_block q.mark b) m.first (y.place ∷ m.rest)
-    ∙ ap (λ c. c || (is_block y.place.mark b || gives_up b m.rest)) clean
-    ∙ ap (λ c. c || gives_up b m.rest) apart ∙ rest in
-    let took : takes b m.at.placed ≡ true = ap (takes b) m.placed ∙ takes_more b m.first y.place m.rest y.took in
-    subst (λ f. holds_block n (places_in (f ++ h ∷ back)) b ≡ true) (sym m.split)
-    (kept_there b m.before m.at m.behind (h ∷ back) n false took none later (subst (λ f. n ≤ length f) m.split l))
+    record {
+      before = m.before;
+      at = m.at;
+      behind = m.behind;
+      split = m.split;
+      took = ap (takes b) m.placed ∙ takes_more b m.first y.place m.rest y.took;
+      kept =
+          ap (gives_up b) m.placed ∙ list_any-append (λ q. is_block q.mark b) m.first (y.place ∷ m.rest)
+          ∙ ap (λ c. c || (is_block y.place.mark b || gives_up b m.rest)) clean
+          ∙ ap (λ c. c || gives_up b m.rest) own_mark ∙ rest;
+      later = neither_right (gives_up b m.rest) (gives_up b (all_places (places_in m.behind))) parts;
+    }
   where
     neither_left : (x y : Bool) → (x || y) ≡ false → x ≡ false
     neither_left true y h = h
@@ -223,6 +220,21 @@ used_held log front h back s n l b (inr (inr x)) =
     marked : (o : Option ℕ) → is_block o b ≡ true → o ≡ Some b
     marked None h = absurd (cc h)
     marked (Some c) h = ap Some (sym (eqb-true b c h))
+
+pub used_held : (log : Log) (front : List Head) (h : Head) (back : List Head) → Succeeds log (front ++ h ∷ back)
+    → (n : ℕ) → n ≤ length front
+    → (b : ℕ) → MayUse log front h b → holds_block n (places_in (front ++ h ∷ back)) b ≡ true
+used_held log front h back s n l b (inl t) = behind_done b front h back n false
+    (or_left (takes b h.placed) (stages_in b h.placed) t) l
+used_held log front h back s n l b (inr (inl t)) = behind_done b front h back n false
+    (or_right (takes b h.placed) (stages_in b h.placed) t) l
+used_held log front h back s n l b (inr (inr x)) =
+    let here : Succeeds log (front ++ h ∷ []) =
+    fewer_heads log (front ++ h ∷ []) back (subst (Succeeds log) (sym (append_assoc front (h ∷ []) back)) s) in
+    let holds = holds_before log front h here in
+    let m = held_message log front (fewer_heads log front (h ∷ back) s) b holds.apart (holds.held x.0 b x.1) in
+    subst (λ f. holds_block n (places_in (f ++ h ∷ back)) b ≡ true) (sym m.split)
+    (kept_there b m.before m.at m.behind (h ∷ back) n false m.took m.kept m.later (subst (λ f. n ≤ length f) m.split l))
 
 pub commands_held : (log : Log) → IsLawful log.meaning log.script → (front : List Head) (h : Head) (back : List Head)
     → Succeeds log (front ++ h ∷ back) → (n : ℕ) → n ≤ length front

@@ -12,7 +12,7 @@ use Rattle.core_model.specs.Owners.{is_block}
 use Rattle.core_model.specs.Adding.{length_of}
 use Rattle.core_model.specs.Lawful.{IsLawful}
 use Rattle.core_model.specs.Succession.{Head, Log, takes, stages_in, all_places, places_in}
-use Rattle.core_model.specs.Spine.{Succeeds, made_of, MayUse, IsInside, IsLong, has_place, holds_block, TakesUnheld}
+use Rattle.core_model.specs.Spine.{Succeeds, made_of, MayUse, IsInside, holds_block, TakesUnheld}
 use Rattle.core_model.specs.Spine.{EndsInBlock}
 use Rattle.core_model.proofs.Steps.Binding.{or_left}
 use Rattle.core_model.proofs.Steps.Creating.{size_fits}

@@ -1,5 +1,5 @@
 -- What the items of a message give up: blocks that an item of it took, or that buffers had before it.
-use Rattle.std.proofs.Common.{◌≡◌, ℕ, suc, Bool, true, false, cond, ◌||◌, ◌==◌, List, [], ◌∷◌, ◌++◌, length, sym, ap}
+use Rattle.std.proofs.Common.{◌≡◌, ℕ, suc, true, false, cond, ◌==◌, List, [], ◌∷◌, ◌++◌, length, sym, ap}
 use Rattle.std.proofs.Common.{◌∙◌, subst, inl, inr, ◌⊎◌, Option, Some, None, append_assoc, append-nil}
 use Rattle.std.proofs.lemmas.Bool.{cases_Bool, both_ways, or_cases, eqb-true}
 use Rattle.std.proofs.lemmas.List.Folds.{list_any-append}

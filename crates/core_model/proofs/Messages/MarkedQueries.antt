@@ -1,6 +1,6 @@
 -- The commands, query marks and shaders of messages that succeed each other are those that the script's turns make.
-use Rattle.std.proofs.Common.{◌≡◌, ℕ, suc, ◌+◌, ◌≤◌, true, false, List, [], ◌∷◌, ◌++◌, map, length, refl, sym, ap, ◌∙◌, subst}
-use Rattle.std.proofs.Common.{arith, append_assoc, append-nil}
+use Rattle.std.proofs.Common.{◌≡◌, ℕ, suc, ◌+◌, ◌<◌, ◌≤◌, true, false, List, [], ◌∷◌, ◌++◌, map, length, refl}
+use Rattle.std.proofs.Common.{sym, ap, ◌∙◌, subst, arith, append_assoc, append-nil}
 use Rattle.std.specs.List.{AllByRecursion}
 use Rattle.vk_types.specs.declared.message.Placed.{Placed}
 use Rattle.vk_types.specs.Effects.{Meaning}
@@ -8,6 +8,7 @@ use Rattle.base_lemmas.specs.Lists.{Pairwise, numbers_from}
 use Rattle.base_lemmas.proofs.Lists.{all_append, all_map}
 use Rattle.core_model.specs.Script.{Turn, Refused, Passed, Flushed, Asked, Item, Script}
 use Rattle.core_model.specs.Chunking.{upto, chunk_turns, joined}
+use Rattle.core_model.specs.CoreState.{last_finished}
 use Rattle.core_model.specs.Renaming.{BlockMap}
 use Rattle.core_model.specs.OtherParts.{created, needed, is_among, values_between}
 use Rattle.core_model.specs.Batching.{Made, nothing_made, next_chunk, make_turns, make_chunks, made}
@@ -18,17 +19,20 @@ use Rattle.core_model.specs.Queries.{commands_in, marks_from, count_in_order, Ar
 use Rattle.core_model.specs.Spine.{Succeeds, made_of}
 use Rattle.core_model.specs.Succession.{Head, Log, turns_upto, places_in, values_after}
 use Rattle.core_model.proofs.Ends.NeededShaders.{created_append, among_front}
+use Rattle.core_model.proofs.Steps.Segments.{turns_length}
 use Rattle.core_model.proofs.Steps.Uses.{map_append}
 use Rattle.core_model.proofs.Messages.HeadLines.{chunk_of, chunks_of, one_longer, turns_numbered, joined_last}
 use Rattle.core_model.proofs.Messages.HeadLines.{heads_last, LastOf, last_of}
 use Rattle.core_model.proofs.Messages.MadeCounts.{Adds, turns_add, shaders_in, turn_shaders}
+use Rattle.core_model.proofs.Messages.HeadStates.{length_of_chunks}
+use Rattle.core_model.proofs.Messages.ScriptChunks.{finished_is}
 use Rattle.core_model.proofs.Messages.Placements.{GivesLine}
 use Rattle.core_model.proofs.Queries.EndValues.{ends_from}
 use Rattle.core_model.proofs.Queries.InOrderCounts.{commands_append}
 use Rattle.core_model.proofs.Queries.InOrderQueries.{reached_start}
 use Rattle.core_model.proofs.Queries.MarksInTurn.{in_turn_from}
-use Rattle.core_model.proofs.Queries.QueryCalls.{calls_rise}
-use Rattle.core_model.proofs.Queries.QueryMarks.{marks_append, marks_rise}
+use Rattle.core_model.proofs.Queries.QueryCalls.{calls_rise, calls_behind}
+use Rattle.core_model.proofs.Queries.QueryMarks.{marks_append, marks_have, marks_behind, marks_rise, numbers_rise}
 
 -- Messages behind what was made ---------------------------------------------------------------------------------------
 
@@ -192,3 +196,24 @@ module _ (log : Log) (front : List Head) (h : Head) (s : Succeeds log (front ++ 
       (subst (λ l. AllByRecursion (λ shader. is_among shader (created l) ≡ true) (shaders_in here)) (sym turns_here)
       (turns_created log.meaning log.script lawful here (joined (turns_of (chunks_of log.script 1 front))) last.back
       last.turns))
+
+  pub names_rise : Pairwise (λ m k. m.before ≤ k.before) (queries_of log.script (places_in (front ++ h ∷ [])))
+  names_rise = subst (Pairwise (λ m k. m.before ≤ k.before)) (sym queries_all)
+      (numbers_rise 0 (turns_upto log.script (suc (length front))))
+
+  pub queries_behind : AllByRecursion (λ m. (made_of log front).commands < m.before)
+      (made_of log (front ++ h ∷ [])).queries
+  queries_behind = subst (AllByRecursion (λ m. (made_of log front).commands < m.before)) (sym adds.queries)
+      (marks_behind (made_of log front).commands here)
+
+  pub queries_late : IsLawful log.meaning log.script
+      → AllByRecursion (λ m. upto log.script (length front) < m.call) (made_of log (front ++ h ∷ [])).queries
+  queries_late lawful =
+      let first = chunks_of log.script 1 front in
+      let long : length first ≡ length front = sym (turns_length first) ∙ length_of_chunks log.script 1 front in
+      let ended : last_finished first ≡ upto log.script (length front) =
+      finished_is log.script first (here ∷ last.rest) last.cut ∙ ap (upto log.script) long in
+      subst (λ n. AllByRecursion (λ m. n < m.call) (made_of log (front ++ h ∷ [])).queries) ended
+      (subst (AllByRecursion (λ m. last_finished first < m.call)) (sym adds.queries)
+      (marks_have (λ c. last_finished first < c) (made_of log front).commands here
+      (calls_behind log.meaning log.script lawful here first [] last.back last.turns)))

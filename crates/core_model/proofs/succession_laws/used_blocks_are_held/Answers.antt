@@ -2,6 +2,7 @@ use Rattle.core_model.proofs.Messages.HeldBlocks.{holds_behind}
 use Rattle.core_model.proofs.Messages.DeviceHolds.{commands_held, writes_held, marks_held}
 use Rattle.core_model.proofs.Messages.EndsInBlocks.{commands_end, writes_end}
 use Rattle.core_model.proofs.Messages.GivenUp.{given_held}
+use Rattle.core_model.proofs.Messages.GivenOnce.{given_once}
 use Rattle.core_model.proofs.Messages.HeldLengths.{lengths_known}
 use Rattle.core_model.proofs.succession_laws.used_blocks_are_held.Goals as goal
 
@@ -14,6 +15,7 @@ returns c = record {
   writes = writes_held;
   marks = marks_held;
   given = given_held;
+  given_once = given_once;
   commands_end = commands_end;
   writes_end = writes_end;
 }
