@@ -178,9 +178,9 @@ pub fn parts_keep_clear()
 /// message's commands have the next numbers, one after another. Its marks of queries are those that its items make in
 /// the script: of calls that no message before it finishes, and behind the commands before it. Those of all messages
 /// stand in turn, of one query a Begin and an End, a Begin first, and neither their calls nor the numbers of the
-/// commands that they name fall. So the values that its completion has are what those Ends leave whose calls it finishes, by the counts that
-/// commands run in order. And what its dispatches run are shaders that its items created, or those of messages before
-/// it.
+/// commands that they name fall. So the values that its completion has are what those Ends leave whose calls it
+/// finishes, by the counts that commands run in order. And what its dispatches run are shaders that its items created,
+/// or those of messages before it.
 pub fn messages_mark_queries()
     ensures turns { (log : Log) (front : List Head) (here : Head) → Succeeds log (front ++ here ∷ [])
         → (rest : List Turn) × (log.script.turns ≡ turns_upto log.script (suc (length front)) ++ rest) }
