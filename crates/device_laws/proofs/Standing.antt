@@ -1,20 +1,15 @@
 -- Each call of a device keeps what it stands for.
-use Rattle.std.proofs.Common.{◌≡◌, ℕ, zero, suc, ◌+◌, ◌<◌, ◌≤◌, List, [], ◌∷◌, ◌++◌, length, map, take, drop, Option, refl, sym, ap, subst, ◌∙◌, append_assoc, arith}
+use Rattle.std.proofs.Common.{◌≡◌, ℕ, suc, List, [], ◌∷◌, ◌++◌, length, map, take, drop, Option, refl, sym, ap, subst, ◌∙◌, append_assoc, arith}
 use Rattle.std.proofs.lemmas.List.{drop-append-le, length_push, take-append-drop}
 use Rattle.base_lemmas.specs.Lists.{IsReordering}
 use Rattle.core_model.proofs.Listing.Reordering.{reordering_append, reordering_moved, reordering_self}
 use Rattle.core_model.specs.Batching.{batch_ops}
 use Rattle.core_model.specs.Succession.{FollowsHead, Head, Log, batch_head, completion_head, made_by}
-use Rattle.lifetime.specs.declared.holds.Mark.{Mark}
-use Rattle.vk_types.specs.declared.command.Command as c
-use Rattle.vk_types.specs.declared.op.VkOp.{VkOp}
 use Rattle.vk_types.specs.declared.message.Batch.{Batch}
 use Rattle.vk_types.specs.declared.message.Completion.{Completion}
-use Rattle.command_queue.specs.declared.queue.Listed.{Listed}
-use Rattle.command_queue.specs.Left.{left, marked}
+use Rattle.command_queue.specs.Left.{left}
 use Rattle.command_queue.specs.Readiness.{fresh, ops_of}
 use Rattle.command_queue.proofs.Laws.{left-append}
-use Rattle.vk_device.specs.declared.accepted.Accepted.{Accepted}
 use Rattle.vk_device.specs.Accepting.{Accepts, IsKept, IsNext, marks_by}
 use Rattle.vk_device.specs.Completing.{Completes, still_marked}
 use Rattle.vk_device.specs.Running.{Runs}

@@ -1,2 +1,3 @@
 pub mod Standing
 pub mod Holding
+pub mod InOrder

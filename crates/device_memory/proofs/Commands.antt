@@ -1,5 +1,5 @@
 -- What a command that is not skipped does.
-use Rattle.std.proofs.Common.{◌≡◌, ℕ, ◌/◌, ◌%◌, false, List, [], ◌∷◌, Option, Some, sym, ap, ◌∙◌, arith}
+use Rattle.std.proofs.Common.{◌≡◌, ℕ, ◌/◌, ◌%◌, false, List, [], ◌∷◌, sym, ap, ◌∙◌, arith}
 use mathlib.Core.Path.{fun_ext}
 use Rattle.std.proofs.lemmas.Bool.{cond-false}
 use Rattle.dx_types.specs.declared.range.Range.{Range}
@@ -10,7 +10,7 @@ use Rattle.vk_types.specs.declared.command.Work.TheVariants as work
 use Rattle.vk_types.specs.declared.command.Command.{Command}
 use Rattle.vk_types.specs.Memory.{Memory, byte_in, number_at, put}
 use Rattle.vk_types.specs.Effects.{Meaning, effect, group_counts, is_skipped, put_slots, slots_words, work_effect}
-use Rattle.device_memory.specs.Meant.{meaning_by, module_meaning_of}
+use Rattle.device_memory.specs.Meant.{module_meaning_of}
 
 pub ran_work : (meaning : Meaning) (c : Command) (m x : Memory) (w : Work) → c.work ≡ w → is_skipped c.cond m ≡ false → x ≡ work_effect meaning w m → x ≡ effect meaning c m
 ran_work meaning c m x w is runs e =
@@ -27,9 +27,8 @@ pub ran_fill : (meaning : Meaning) (c : Command) (m x : Memory) (target : Range)
 ran_fill meaning c m x target word is runs e =
     ran_work meaning c m x (work.Fill target word) is runs (e ∙ ap (λ (p : ℕ → ℕ). put target p m) (fun_ext (λ k. fill_byte word k)))
 
-pub ran_dispatch : (c : Command) (m x : Memory) (o : Option (List ℕ)) (code : List ℕ) (shader : ℕ) (groups : Groups) (slots ss : List SlotRange) → o ≡ Some code → c.work ≡ work.Dispatch shader groups slots
-    → is_skipped c.cond m ≡ false → ss ≡ slots → x ≡ put_slots ((module_meaning_of code).words 0 (group_counts m groups) (slots_words m ss)) ss m → x ≡ effect (meaning_by o) c m
-ran_dispatch c m x o code shader groups slots ss given is runs same e =
-    ran_work (meaning_by (Some code)) c m x (work.Dispatch shader groups slots) is runs
+pub ran_dispatch : (c : Command) (m x : Memory) (code : List ℕ) (shader : ℕ) (groups : Groups) (slots ss : List SlotRange) → c.work ≡ work.Dispatch shader groups slots
+    → is_skipped c.cond m ≡ false → ss ≡ slots → x ≡ put_slots ((module_meaning_of code).words 0 (group_counts m groups) (slots_words m ss)) ss m → x ≡ effect (module_meaning_of code) c m
+ran_dispatch c m x code shader groups slots ss is runs same e =
+    ran_work (module_meaning_of code) c m x (work.Dispatch shader groups slots) is runs
     (e ∙ ap (λ (l : List SlotRange). put_slots ((module_meaning_of code).words 0 (group_counts m groups) (slots_words m l)) l m) same)
-    ∙ ap (λ (o : Option (List ℕ)). effect (meaning_by o) c m) (sym given)

@@ -9,6 +9,7 @@ use crate::counter::counting_module;
 use buffer_blocks::Block;
 use device_memory::DeviceMemory;
 use dx_types::Range;
+use spirv_run::Machine;
 use std::alloc::Global;
 use std::test::Fail;
 use vk_types::{Command, Cond, Groups, SlotList, SlotName, SlotRange, Work};
@@ -84,7 +85,7 @@ pub(crate) fn run(memory: &mut DeviceMemory, c: &Command) -> Result<u64, Fail> {
     if !can_work(memory, &c.work) || !can_skip(memory, &c.cond) {
         return Err("this can't be run".into());
     }
-    Ok(memory.run(c, None)?)
+    Ok(memory.run(c))
 }
 
 fn can_count(memory: &DeviceMemory, groups: &Groups) -> bool
@@ -142,5 +143,6 @@ pub(crate) fn dispatch(
         cond: None,
     };
     let module = counting_module(alloc)?;
-    Ok(memory.run(&c, Some(&module))?)
+    let mut machine = Machine::new(alloc, &module)?;
+    Ok(memory.dispatch(&c, &mut machine))
 }

@@ -1,9 +1,9 @@
 //! What dispatches of a module leave in memory, and how many invocations they run.
 
 use crate::checked::{bytes, dispatch, run, three_blocks, write};
-use crate::tasks::{ONE_GROUP, Part, Task, command};
 use device_memory::DeviceMemory;
 use dx_types::Range;
+use listing_tables::{ONE_GROUP, Part, Task, command};
 use std::alloc::Global;
 use std::process::Abort;
 use std::test::Fail;

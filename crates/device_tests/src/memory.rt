@@ -1,9 +1,9 @@
 //! What commands do to the bytes of three blocks.
 
 use crate::checked::{bytes, run, three_blocks, write};
-use crate::tasks::{Part, Task, command};
 use device_memory::DeviceMemory;
 use dx_types::Range;
+use listing_tables::{Part, Task, command};
 use std::alloc::Global;
 use std::process::Abort;
 use std::test::Fail;

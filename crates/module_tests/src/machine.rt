@@ -43,7 +43,7 @@ fn is_few(groups: [u32; 3], size: [u32; 3]) -> bool
 }
 
 /// Runs so many groups, where there may be so many.
-fn dispatch(machine: &mut Machine<'_>, groups: [u32; 3], slots: &mut Slots<'_>) -> Result<u64, Fail>
+fn dispatch(machine: &mut Machine, groups: [u32; 3], slots: &mut Slots<'_>) -> Result<u64, Fail>
     requires { IsDefined machine.old }
     ensures { machine.new ≡ machine.old }
 {

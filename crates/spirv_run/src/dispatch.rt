@@ -23,7 +23,7 @@ fn has_three(places: [u32; 3])
 
 /// One thread of a group.
 fn run_thread(
-    table: &Table<'_>,
+    table: &Table,
     groups: [u32; 3],
     group: [u32; 3],
     thread: [u32; 3],
@@ -53,7 +53,7 @@ fn run_thread(
 
 /// The threads of a group.
 fn run_group(
-    table: &Table<'_>,
+    table: &Table,
     groups: [u32; 3],
     group: [u32; 3],
     frame: &mut Frame,
@@ -74,7 +74,7 @@ fn run_group(
 }
 
 /// All groups of a dispatch.
-fn run_all_groups(table: &Table<'_>, groups: [u32; 3], frame: &mut Frame, slots: &mut Slots<'_>)
+fn run_all_groups(table: &Table, groups: [u32; 3], frame: &mut Frame, slots: &mut Slots<'_>)
     requires defined { IsDefined table.now }
     requires allowed { IsAllowed groups (group_of table.now) }
     requires room { IsFor frame.old table.now }
@@ -98,12 +98,7 @@ fn count(groups: [u32; 3], size: [u32; 3]) -> u64
 
 /// Runs the invocations of so many groups in index order, and answers how many ran. The frame is one that was made for
 /// this module.
-pub fn run_groups(
-    table: &Table<'_>,
-    groups: [u32; 3],
-    frame: &mut Frame,
-    slots: &mut Slots<'_>,
-) -> u64
+pub fn run_groups(table: &Table, groups: [u32; 3], frame: &mut Frame, slots: &mut Slots<'_>) -> u64
     requires defined { IsDefined table.now }
     requires allowed { IsAllowed groups (group_of table.now) }
     requires room { IsFor frame.old table.now }

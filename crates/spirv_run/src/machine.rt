@@ -13,14 +13,15 @@ use spirv_words::Module;
 use std::alloc::{AllocError, Global};
 use std::marker::Model;
 
-/// A module's table, and room for one invocation. A clause sees the module's words.
+/// A module's table, and room for one invocation. It can be kept for as long as the module may be dispatched. A clause sees
+/// the module's words.
 #[derive(Drop)]
-pub struct Machine<'a> {
-    table: Table<'a>,
+pub struct Machine {
+    table: Table,
     frame: Frame,
 }
 
-impl<'a> Model for Machine<'a> {
+impl Model for Machine {
     ghost use Rattle.std.specs.Prelude.{ℕ, List};
     ghost use Rattle.spirv_run.specs.Tables.{IsFor};
 
@@ -31,15 +32,22 @@ impl<'a> Model for Machine<'a> {
     ghost invariant = { λ m. IsFor m.frame m.table };
 }
 
-impl<'a> Machine<'a> {
+impl Machine {
     /// Decodes the words of a module once. It takes memory for each instruction, and for each id below the greatest,
     /// which SPIR-V 1.6, section 2.3, wants to be small.
-    pub fn new(alloc: Global, from: &'a Module) -> Result<Machine<'a>, AllocError>
+    pub fn new(alloc: Global, from: &Module) -> Result<Machine, AllocError>
         ensures { IfOk result (λ machine. machine ≡ from.now) }
     {
         let table = Table::new(alloc, from.words())?;
         let frame = table.frame(alloc)?;
         Ok(Machine { table, frame })
+    }
+
+    /// The module's words.
+    pub fn words(&self) -> &[u32]
+        ensures { result.now ≡ self.now }
+    {
+        self.table.words()
     }
 
     /// The sizes of the module's group: those of its first LocalSize, and 1, 1, 1 where it has none.

@@ -123,7 +123,7 @@ impl Frame {
 
 /// At most so many steps from a place of the table on. It answers where they lead.
 fn run_round(
-    table: &Table<'_>,
+    table: &Table,
     thread: &Thread,
     start: usize,
     most: u32,
@@ -151,7 +151,7 @@ fn run_round(
 
 /// Runs one invocation of a module on the words of the slots. It answers whether the invocation came to its end. It
 /// takes no memory.
-pub fn invoke(table: &Table<'_>, thread: &Thread, frame: &mut Frame, slots: &mut Slots<'_>) -> bool
+pub fn invoke(table: &Table, thread: &Thread, frame: &mut Frame, slots: &mut Slots<'_>) -> bool
     requires whole { (reading_of table.now).stop ≡ None }
     requires room { IsFor frame.old table.now }
     ensures words { module_meaning table.now thread.now slots.old.words ≡ (if result then Some slots.new.words else None) }

@@ -15,26 +15,26 @@ use std::marker::Model;
 
 /// A module with its table. A clause sees the module's words.
 #[derive(Drop)]
-pub struct Table<'a> {
-    words: &'a [u32],
+pub struct Table {
+    words: Vec<u32>,
     steps: Vec<Step>,
     group: [u32; 3],
 }
 
-impl<'a> Model for Table<'a> {
+impl Model for Table {
     ghost use Rattle.std.specs.Prelude.{ℕ, List};
     ghost use Rattle.spirv_run.specs.Tables.{IsTable};
 
     ghost Value = { List ℕ };
 
-    ghost view = { λ t. t.words.now };
+    ghost view = { λ t. t.words.items };
 
-    ghost invariant = { λ t. IsTable t.words.now t.steps.items t.group };
+    ghost invariant = { λ t. IsTable t.words.items t.steps.items t.group };
 }
 
-impl<'a> Table<'a> {
-    /// The table of a module's words.
-    pub fn new(alloc: Global, words: &'a [u32]) -> Result<Table<'a>, AllocError>
+impl Table {
+    /// The table of a module's words, of which it has a copy.
+    pub fn new(alloc: Global, words: &[u32]) -> Result<Table, AllocError>
         ensures { IfOk result (λ table. table ≡ words.now) }
     {
         let ops = instructions(alloc, behind_header(words))?;
@@ -42,7 +42,7 @@ impl<'a> Table<'a> {
         let steps = steps(alloc, &names, &ops)?;
         let group = local_size(&ops);
         Ok(Table {
-            words,
+            words: words.to_vec(alloc)?,
             steps,
             group,
         })
@@ -75,6 +75,13 @@ impl<'a> Table<'a> {
         let start = start_of(&self.steps, &mut frame);
         frame.start_at(start);
         Ok(frame)
+    }
+
+    /// The module's words.
+    pub fn words(&self) -> &[u32]
+        ensures { result.now ≡ self.now }
+    {
+        &self.words
     }
 
     /// How many words the module has.

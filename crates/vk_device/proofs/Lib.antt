@@ -4,3 +4,4 @@ pub mod Giving
 pub mod Ran
 pub mod Checks
 pub mod Lengths
+mod Kept

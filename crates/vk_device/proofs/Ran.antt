@@ -10,6 +10,7 @@ use Rattle.device_memory.specs.Runs.{CanRun, CanWork}
 use Rattle.command_queue.specs.declared.queue.Listed.{Listed}
 use Rattle.command_queue.specs.Readiness.{ready_places, step_command}
 use Rattle.vk_device.specs.Running.{CanRunReady, CanWorkIf, IsDefinedIf, IsReady}
+use Rattle.vk_device.specs.Modules.{Agrees, Modules, module_of}
 use Rattle.vk_device.specs.State.{State, place_command, ready_command}
 
 some_same : {A : Type 0} (x y : A) → Some x ≡ Some y → x ≡ y
@@ -42,6 +43,12 @@ can_run_it d queue held j place e words can is same at there =
     let one : can.is.command ≡ e = one_command d j can.is (found d queue j place e is at there) in
     subst (λ h. CanRun h e words) (sym same) (subst (λ x. CanRun d.held x words) one can.can)
 
+pub agrees_it : (d : State) (queue : List Listed) (modules : Modules) (j place : ℕ) (e : c.Command) (words : Option (List ℕ)) (can : CanRunReady d j words) → queue ≡ d.steps
+    → modules ≡ d.modules → slice_get (ready_places queue) j ≡ Some place → step_command (slice_get queue place) ≡ Some e → Agrees words e.work (module_of modules)
+agrees_it d queue modules j place e words can is same at there =
+    let one : can.is.command ≡ e = one_command d j can.is (found d queue j place e is at there) in
+    subst (λ (l : Modules). Agrees words e.work (module_of l)) (sym same) (subst (λ (x : c.Command). Agrees words x.work (module_of d.modules)) one can.agrees)
+
 -- Tests ----------------------------------------------------------------------------------------------------------------------
 
 pub record IsReadyAs (d : State) (j : ℕ) (e : c.Command) : Type 0 where
@@ -66,10 +73,14 @@ can_work held (work.Dispatch shader counts slots) None can defined = absurd can
 can_work held (work.Dispatch shader counts slots) (Some words) can defined = record { defined = defined; counts = can.0; bound = can.1; apart = can.2 }
 
 -- where the command is the ready one, and the module, if one is given, has an outcome
-pub can_run_ready : (d : State) (held : Held) (j : ℕ) (e : c.Command) (words : Option (List ℕ)) (t : Bool) → held ≡ d.held → ready_command d j ≡ Some e → t ≡ is_some words
-    → CanWorkIf held e.work t → CanSkip held e.cond → IsDefinedIf words → CanRunReady d j words
-can_run_ready d held j e words t same there is can skip defined =
+pub can_run_ready : (d : State) (held : Held) (modules : Modules) (j : ℕ) (e : c.Command) (words : Option (List ℕ)) (t : Bool) → held ≡ d.held → modules ≡ d.modules → ready_command d j ≡ Some e → t ≡ is_some words
+    → CanWorkIf held e.work t → CanSkip held e.cond → Agrees words e.work (module_of modules) → IsDefinedIf words → CanRunReady d j words
+can_run_ready d held modules j e words t same kept there is can skip agrees defined =
     let r = ready_as d j e there in
     let work : CanWork held e.work words = can_work held e.work words (subst (λ b. CanWorkIf held e.work b) is can) defined in
     let run : CanRun held e words = record { work = work; condition = skip } in
-    record { is = r.is; can = subst (λ (x : c.Command). CanRun d.held x words) (sym r.same) (subst (λ h. CanRun h e words) same run) }
+    record {
+      is = r.is;
+      can = subst (λ (x : c.Command). CanRun d.held x words) (sym r.same) (subst (λ h. CanRun h e words) same run);
+      agrees = subst (λ (x : c.Command). Agrees words x.work (module_of d.modules)) (sym r.same) (subst (λ (l : Modules). Agrees words e.work (module_of l)) kept agrees);
+    }

@@ -128,3 +128,4 @@ pub record Accepts (log : List ℕ) (b : Batch) (old new : State) : Type 0 where
   pub order : new.order ≡ old.order
   pub marks : new.marks ≡ old.marks ++ marks_by b.number b.marks.items
   pub asked : MarksAll b.queries.items old.asked new.asked
+  pub modules : new.modules ≡ old.modules

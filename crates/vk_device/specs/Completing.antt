@@ -116,3 +116,4 @@ pub record Completes (old : State) (done : Completion) (new : State) : Type 0 wh
   pub asked : new.asked ≡ record old.asked { ended = ended_after batch.upto old.asked.ended }
   pub newest : new.newest ≡ old.newest
   pub order : new.order ≡ old.order
+  pub modules : new.modules ≡ old.modules

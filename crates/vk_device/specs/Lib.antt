@@ -1,3 +1,4 @@
+pub mod Modules
 pub mod State
 pub mod Accepting
 pub mod Running

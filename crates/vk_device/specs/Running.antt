@@ -14,6 +14,7 @@ use Rattle.device_memory.specs.Ranges.{AreApart, CanBind, CanCount, size_of}
 use Rattle.device_memory.specs.Runs.{CanRun}
 use Rattle.command_queue.specs.Left.{marked}
 use Rattle.command_queue.specs.Readiness.{ready_places, step_command}
+use Rattle.vk_device.specs.Modules.{Agrees, module_of, modules_after}
 use Rattle.vk_device.specs.State.{State}
 
 -- the ready command number j: where it stands, and the command
@@ -23,10 +24,12 @@ pub record IsReady (d : State) (j : ℕ) : Type 0 where
   pub is_place : slice_get (ready_places d.steps) j ≡ Some place
   pub is_command : step_command (slice_get d.steps place) ≡ Some command
 
--- it is there, and the device can run it with this module, which is given where it is a dispatch
+-- it is there, and the device can run it with this module, which is given where it is a dispatch. One that was given for its
+-- shader before means the same
 pub record CanRunReady (d : State) (j : ℕ) (words : Option (List ℕ)) : Type 0 where
   pub is : IsReady d j
   pub can : CanRun d.held is.command words
+  pub agrees : Agrees words is.command.work (module_of d.modules)
 
 -- the module has an outcome, if one is given
 abbrev pub IsDefinedIf : Option (List ℕ) → Type 0
@@ -56,6 +59,7 @@ pub record Runs (j : ℕ) (words : Option (List ℕ)) (old new : State) : Type 0
   pub batches : new.batches ≡ old.batches
   pub newest : new.newest ≡ old.newest
   pub marks : new.marks ≡ old.marks
+  pub modules : module_of new.modules ≡ modules_after words is.command.work (module_of old.modules)
 
 -- no command was run, accepted or completed
 pub record SameCommands (old new : State) : Type 0 where

@@ -9,6 +9,7 @@ use Rattle.vk_types.specs.declared.command.Command as c
 use Rattle.command_queue.specs.declared.queue.Listed.{Listed}
 use Rattle.command_queue.specs.Readiness.{ready_places, step_command}
 use Rattle.vk_device.specs.declared.accepted.Accepted.{Accepted}
+use Rattle.vk_device.specs.Modules.{Modules}
 
 pub record State : Type 0 where
   -- the blocks that it holds
@@ -25,9 +26,20 @@ pub record State : Type 0 where
   pub marks : List Mark
   -- the queries, and how many invocations each command ran
   pub asked : Asked
+  -- the modules of the shaders that were dispatched
+  pub modules : Modules
 
 abbrev pub no_state : State
-no_state = record { held = []; batches = []; steps = []; newest = 0; order = []; marks = []; asked = record { begun = []; ended = []; counts = [] } }
+no_state = record {
+  held = [];
+  batches = [];
+  steps = [];
+  newest = 0;
+  order = [];
+  marks = [];
+  asked = record { begun = []; ended = []; counts = [] };
+  modules = [];
+}
 
 abbrev pub place_command : List Listed → Option ℕ → Option c.Command
 place_command steps None = None

@@ -17,14 +17,16 @@ use vk_types::{Cond, Groups, SlotName, SlotRange, Work};
 
 impl Device {
     /// Whether the ready command `j` is there and can be run with this module, if the module has an outcome: a module is given
-    /// exactly where it is a dispatch, and all that the command names lies in blocks that are held.
+    /// exactly where it is a dispatch, all that the command names lies in blocks that are held, and a module that is kept of its
+    /// shader has the same words, which are compared.
     pub fn can_run(&self, j: u32, module: Option<&Module>) -> bool
         ensures { result ≡ true → IsDefinedIf (option_copied «module».entry) → CanRunReady self.now j (option_copied «module».entry) }
     {
         match self.ready_command(j) {
             Some(command) => {
                 can_work(&self.memory, &command.work, module.is_some())
-                    && can_skip(&self.memory, &command.cond)
+                    && (can_skip(&self.memory, &command.cond)
+                        && self.machines.agree(&command.work, module))
             }
             None => false,
         }

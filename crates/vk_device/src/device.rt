@@ -8,6 +8,7 @@ ghost use Rattle.vk_device.specs.Completing.{can_complete};
 ghost use Rattle.vk_device.specs.State.{no_state, number_of, ready_command, shader_of, work_shader};
 
 use crate::accepted::Accepted;
+use crate::machines::Machines;
 use buffer_blocks::Block;
 use command_queue::CommandQueue;
 use device_memory::DeviceMemory;
@@ -31,6 +32,7 @@ pub struct Device {
     pub(crate) order: Vec<u64>,
     pub(crate) holds: Holds,
     pub(crate) queries: Queries,
+    pub(crate) machines: Machines,
 }
 
 impl Model for Device {
@@ -48,6 +50,7 @@ impl Model for Device {
       order = d.order.items;
       marks = d.holds;
       asked = d.queries;
+      modules = d.machines;
     } };
 
     ghost invariant = { λ d. All (λ (m : Mark). m.chunk ≤ d.newest) d.holds };
@@ -67,6 +70,7 @@ impl Device {
             order: Vec::new(alloc),
             holds: Holds::new(alloc),
             queries: Queries::new(alloc),
+            machines: Machines::new(alloc),
         }
     }
 

@@ -9,6 +9,7 @@ mod check_batch;
 mod complete;
 mod copies;
 mod device;
+mod machines;
 mod run;
 
 pub use accepted::Accepted;

@@ -16,7 +16,8 @@ use vk_types::Command;
 
 impl Device {
     /// Runs the ready command `j`, which is there. A module is given exactly where it is a dispatch, and is that of the command's
-    /// shader. After a lack of memory no command was run, but bytes that the command writes may have changed.
+    /// shader: the device keeps the first that is given for a shader, decoded, and each later one means the same. After a lack of
+    /// memory no command was run, but bytes that the command writes may have changed.
     pub fn run(&mut self, j: u32, module: Option<&Module>) -> Result<(), AllocError>
         requires { CanRunReady self.old j (option_copied «module») }
         ensures ok { OnOk result (Runs j (option_copied «module».entry) self.old self.new) }
@@ -26,7 +27,7 @@ impl Device {
         let command = command_at(&self.queue, place);
         let number = command.number;
         self.order.reserve(1)?;
-        let invocations = self.memory.run(command, module)?;
+        let invocations = self.machines.run(&mut self.memory, command, module)?;
         count(&mut self.queries, number, invocations)?;
         self.queue.mark(place);
         self.order.push_reserved(number);

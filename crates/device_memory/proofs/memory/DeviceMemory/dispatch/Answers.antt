@@ -1,13 +1,9 @@
-use Rattle.std.proofs.Common.{ℕ, List, ap, ◌∙◌}
-use Rattle.vk_types.specs.Effects.{put_slots, slots_words}
+use Rattle.std.proofs.Common.{sym, ◌∙◌}
 use Rattle.device_memory.specs.Held.{memory_of}
-use Rattle.device_memory.specs.Meant.{module_meaning_of}
+use Rattle.device_memory.proofs.Commands.{ran_dispatch}
 use Rattle.device_memory.proofs.memory.DeviceMemory.dispatch.Goals as goal
 
 pub returns-clause-memory : goal.returns-clause-memory
 returns-clause-memory c =
-    let m = memory_of c.args.self.now in
-    let ss = c.args.slots.now in
-    c.dispatch_groups.ensures.memory
-    ∙ ap (λ (code : List ℕ). put_slots ((module_meaning_of code).words 0 c.counts-counts.result (slots_words m ss)) ss m) c.in_ok-machine.ensures
-    ∙ ap (λ (counts : List ℕ). put_slots ((module_meaning_of c.args.module.now).words 0 counts (slots_words m ss)) ss m) c.counts-counts.ensures
+    ran_dispatch c.args.c.now (memory_of c.args.self.now) (memory_of c.dispatch_groups.new.self) c.args.machine.now c.in-Dispatch.shader c.in-Dispatch.groups c.in-Dispatch.slots
+    c.as_slice.result.now c.in-Dispatch.is (sym c.is_skipped.ensures ∙ c.if-is_skipped.false) c.as_slice.ensures c.dispatch_groups.ensures.memory

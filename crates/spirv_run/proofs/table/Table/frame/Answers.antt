@@ -10,7 +10,7 @@ use Rattle.spirv_run.proofs.table.Table.frame.Goals as goal
 pub returns : goal.returns
 unfolding ids_of
 returns c =
-    let w = c.self.inside.words.now in
+    let w = c.self.inside.words.items in
     let start = c.start_of-start.result in
     let g = c.start_of-start.new.frame in
     let started : c.deref-2.result.now ≡ steps_of w = c.deref-2.ensures.value ∙ c.self.invariant.steps_are in

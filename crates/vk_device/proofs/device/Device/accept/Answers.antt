@@ -74,6 +74,7 @@ returns-clause-ok c =
       batches = c.in_ok-push_back.ensures.items ∙ ap (λ (l : List Accepted). l ++ kept ∷ []) (ap (λ (d : State). d.batches) c.self.view_is);
       steps = c.in_ok-push_all.ensures ∙ ap (λ (l : List Listed). l ++ map fresh b.ops.items) (ap (λ (d : State). d.steps) c.self.view_is);
       newest = refl;
+      modules = ap (λ (d : State). d.modules) c.self.view_is;
       order = ap (λ (d : State). d.order) c.self.view_is;
       marks = c.in_ok-retire_all.ensures.ok ∙ ap (λ (l : List ℕ). c.self.inside.holds ++ marks_by b.number l) c.deref-4.ensures.value
           ∙ ap (λ (l : List Mark). l ++ marks_by b.number b.marks.items) (ap (λ (d : State). d.marks) c.self.view_is);

@@ -9,8 +9,9 @@ copied_some : {A : Type 0} (o : Option (Bor A)) → is_some o ≡ is_some (optio
 copied_some None = refl
 copied_some (Some x) = refl
 
-pub returns-then-can_work : goal.returns-then-can_work
-returns-then-can_work c = λ t defined.
+pub returns-then-can_skip : goal.returns-then-can_skip
+returns-then-can_skip c = λ t defined.
     let there = sym c.ready_command.ensures ∙ ap option_copied c.in-Some.is in
-    can_run_ready c.args.self.now c.self.inside.memory c.args.j c.in-Some.command.now (option_copied c.args.«module») c.is_some.result (ap (λ (s : State). s.held) c.self.view_is)
-    there (c.is_some.ensures ∙ copied_some c.args.«module») (c.can_work.ensures c.if-can_work.true) (c.can_skip.ensures t) defined
+    can_run_ready c.args.self.now c.self.inside.memory c.self.inside.machines c.args.j c.in-Some.command.now (option_copied c.args.«module») c.is_some.result (ap (λ (s : State). s.held) c.self.view_is)
+    (ap (λ (s : State). s.modules) c.self.view_is)
+    there (c.is_some.ensures ∙ copied_some c.args.«module») (c.can_work.ensures c.if-can_work.true) (c.can_skip.ensures c.if-can_skip.true) (c.agree.ensures t) defined

@@ -38,4 +38,5 @@ returns-clause-done c =
       asked = cc (c.in_ok-values.ensures.rest, asked);
       newest = ap (λ (d : State). d.newest) c.self.view_is;
       order = ap (λ (d : State). d.order) c.self.view_is;
+      modules = ap (λ (d : State). d.modules) c.self.view_is;
     }

@@ -1,6 +1,6 @@
 use Rattle.std.proofs.Common.{◌≡◌, [], ◌++◌, length}
 use Rattle.cs_chunk.specs.Chunk.{entries_of, with_entries}
-use Rattle.device_tests.proofs.conclusions.take_all.Given as goal
+use Rattle.chunk_tests.proofs.conclusions.take_all.Given as goal
 
 abbrev pub invariant-takes : goal.invariant-takes
 invariant-takes l = record {

@@ -1,8 +1,8 @@
 //! What commands touch, and which of them conflict.
 
-use crate::tasks::{Part, Task, command};
 use bitflags::Flags;
 use dx_types::Range;
+use listing_tables::{Part, Task, command};
 use std::alloc::Global;
 use std::process::Abort;
 use std::test::Fail;

@@ -1,6 +1,6 @@
 //! Listings that cover their hazards or do not, and orders that a listing allows or does not.
 
-use crate::tasks::{ALL_TOUCHES, ALL_WRITES, ONE_GROUP, Op, Part, Task, listing, operation};
+use listing_tables::{ALL_TOUCHES, ALL_WRITES, ONE_GROUP, Op, Part, Task, listing, operation};
 use std::alloc::{AllocError, Global};
 use std::process::Abort;
 use std::test::Fail;

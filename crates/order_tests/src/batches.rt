@@ -1,7 +1,7 @@
 //! Batches on their way to the device.
 
-use crate::tasks::{ALL_TOUCHES, ALL_WRITES, Op, Part, Task, listing};
 use dx_types::{CallNo, Range};
+use listing_tables::{ALL_TOUCHES, ALL_WRITES, Op, Part, Task, listing};
 use std::alloc::{AllocError, Global};
 use std::process::Abort;
 use std::test::Fail;

@@ -8,10 +8,10 @@ use vk_types::{
 
 /// The bytes of a block from one place to just before another.
 #[derive(Clone, Copy)]
-pub(crate) struct Part(pub(crate) u32, pub(crate) u64, pub(crate) u64);
+pub struct Part(pub u32, pub u64, pub u64);
 
 impl Part {
-    pub(crate) fn range(self) -> Range {
+    pub fn range(self) -> Range {
         Range {
             block: self.0,
             from: self.1,
@@ -22,7 +22,7 @@ impl Part {
 
 /// What a command does.
 #[derive(Clone, Copy)]
-pub(crate) enum Task {
+pub enum Task {
     /// From one part to another.
     Copy(Part, Part),
     /// The part, and the word that it is filled with.
@@ -38,7 +38,7 @@ pub(crate) enum Task {
 
 /// An operation of a listing. A command has its number and its task.
 #[derive(Clone, Copy)]
-pub(crate) enum Op {
+pub enum Op {
     HostWrite(Part),
     Pipeline(CallNo),
     Barrier(Barrier),
@@ -50,7 +50,7 @@ pub(crate) enum Op {
 }
 
 /// Reads and writes at each stage of the device.
-pub(crate) const ALL_TOUCHES: Mask = Mask {
+pub const ALL_TOUCHES: Mask = Mask {
     indirect: Some(Access::READ_WRITE),
     compute: Some(Access::READ_WRITE),
     transfer: Some(Access::READ_WRITE),
@@ -58,7 +58,7 @@ pub(crate) const ALL_TOUCHES: Mask = Mask {
 };
 
 /// Writes at each stage of the device.
-pub(crate) const ALL_WRITES: Mask = Mask {
+pub const ALL_WRITES: Mask = Mask {
     indirect: Some(Access::WRITE),
     compute: Some(Access::WRITE),
     transfer: Some(Access::WRITE),
@@ -66,7 +66,7 @@ pub(crate) const ALL_WRITES: Mask = Mask {
 };
 
 /// Groups of a dispatch that runs one.
-pub(crate) const ONE_GROUP: Groups = Groups::Direct { x: 1, y: 1, z: 1 };
+pub const ONE_GROUP: Groups = Groups::Direct { x: 1, y: 1, z: 1 };
 
 fn slot_list(alloc: Global, slots: &[(SlotName, Part)]) -> Result<SlotList, AllocError> {
     let mut list = Vec::new(alloc);
@@ -79,7 +79,7 @@ fn slot_list(alloc: Global, slots: &[(SlotName, Part)]) -> Result<SlotList, Allo
     Ok(SlotList::new(list))
 }
 
-pub(crate) fn work(alloc: Global, task: Task) -> Result<Work, AllocError> {
+pub fn work(alloc: Global, task: Task) -> Result<Work, AllocError> {
     let work = match task {
         Task::Copy(source, target) => Work::Copy {
             source: source.range(),
@@ -107,7 +107,7 @@ pub(crate) fn work(alloc: Global, task: Task) -> Result<Work, AllocError> {
     Ok(work)
 }
 
-pub(crate) fn command(
+pub fn command(
     alloc: Global,
     number: u64,
     task: Task,
@@ -121,7 +121,7 @@ pub(crate) fn command(
     })
 }
 
-pub(crate) fn operation(alloc: Global, op: Op) -> Result<VkOp, AllocError> {
+pub fn operation(alloc: Global, op: Op) -> Result<VkOp, AllocError> {
     let operation = match op {
         Op::HostWrite(part) => VkOp::HostWrite {
             range: part.range(),
@@ -143,7 +143,7 @@ pub(crate) fn operation(alloc: Global, op: Op) -> Result<VkOp, AllocError> {
     Ok(operation)
 }
 
-pub(crate) fn listing(alloc: Global, ops: &[Op]) -> Result<Vec<VkOp>, AllocError> {
+pub fn listing(alloc: Global, ops: &[Op]) -> Result<Vec<VkOp>, AllocError> {
     let mut list = Vec::new(alloc);
     for op in ops {
         list.push(operation(alloc, *op)?)?;

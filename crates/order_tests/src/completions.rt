@@ -1,9 +1,9 @@
 //! Completions, which come apart into a post and the blocks that go home.
 
 use crate::batches::OPERATIONS;
-use crate::tasks::listing;
 use buffer_blocks::Block;
 use dx_types::{ByteList, Range};
+use listing_tables::listing;
 use std::alloc::Global;
 use std::process::Abort;
 use std::test::Fail;

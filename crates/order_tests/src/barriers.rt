@@ -1,7 +1,7 @@
 //! The barriers that a tracker puts before commands.
 
-use crate::tasks::{ALL_TOUCHES, ONE_GROUP, Part, Task, command};
 use barrier_track::Tracker;
+use listing_tables::{ALL_TOUCHES, ONE_GROUP, Part, Task, command};
 use std::alloc::{AllocError, Global};
 use std::process::Abort;
 use std::test::Fail;

@@ -1,0 +1,5 @@
+use Rattle.device_laws.proofs.InOrder.{leads_accepted, leads_completed, leads_first, leads_run}
+use Rattle.device_laws.proofs.what_is_left_completes_what_is_held.Goals as goal
+
+pub returns : goal.returns
+returns c = record { first = leads_first; accepted = leads_accepted; run = leads_run; completed = leads_completed }
