@@ -216,12 +216,12 @@ leads_run meaning j words old new m leads r does = record {
       ∙ leads.bytes;
 }
 
-module _ (meaning : Meaning) (done : Completion) (old new : State) (m : Memory) (leads : LeadsTo meaning old m) (c : Completes old done new) where
-  same : left new.steps ≡ left old.steps
-  same =
-      ap left c.steps ∙ sym (ap (λ l. l ++ left (drop c.batch.count old.steps)) (left_none (take c.batch.count old.steps) c.all_ran))
-      ∙ sym (left-append (take c.batch.count old.steps) (drop c.batch.count old.steps)) ∙ ap left (take-append-drop c.batch.count old.steps)
+pub left_same : (done : Completion) (old new : State) (c : Completes old done new) → left new.steps ≡ left old.steps
+left_same done old new c =
+    ap left c.steps ∙ sym (ap (λ l. l ++ left (drop c.batch.count old.steps)) (left_none (take c.batch.count old.steps) c.all_ran))
+    ∙ sym (left-append (take c.batch.count old.steps) (drop c.batch.count old.steps)) ∙ ap left (take-append-drop c.batch.count old.steps)
 
+module _ (meaning : Meaning) (done : Completion) (old new : State) (m : Memory) (leads : LeadsTo meaning old m) (c : Completes old done new) where
   kept : memory_of new.held ≡ without_blocks (gone_with old c.batch) (memory_of old.held)
   kept =
       ap memory_in c.held ∙ all_gone (released c.batch.number old.marks) (without_all c.batch.pages.items (block_of old.held))
@@ -232,6 +232,6 @@ module _ (meaning : Meaning) (done : Completion) (old new : State) (m : Memory) 
   leads_completed spare = record {
     hazards = subst HazardsHold (sym c.steps) (hazards_dropped c.batch.count old.steps leads.hazards);
     bytes =
-        ap (λ l. run_commands meaning l (memory_of new.held)) same ∙ ap (run_commands meaning (left old.steps)) kept
+        ap (λ l. run_commands meaning l (memory_of new.held)) (left_same done old new c) ∙ ap (run_commands meaning (left old.steps)) kept
         ∙ all_spared meaning (left old.steps) (gone_with old c.batch) spare (memory_of old.held) ∙ ap (without_blocks (gone_with old c.batch)) leads.bytes;
   }

@@ -1,5 +1,5 @@
 -- What the bytes that a device holds become, once the commands that are left are run in order.
-use Rattle.std.specs.Prelude.{◌≡◌, ℕ, cond, true, false, List, ◌++◌, length, map, Option}
+use Rattle.std.specs.Prelude.{◌≡◌, ℕ, cond, true, false, List, ◌∷◌, ◌++◌, length, map, Option}
 use Rattle.std.specs.List.{AllByRecursion}
 use Rattle.dx_types.specs.declared.range.Range.{Range}
 use Rattle.buffer_blocks.specs.declared.block.Block.{Block}
@@ -8,11 +8,12 @@ use Rattle.call_log.specs.Grammar.{part_of}
 use Rattle.vk_types.specs.declared.command.Command as c
 use Rattle.vk_types.specs.declared.message.Batch.{Batch}
 use Rattle.vk_types.specs.declared.message.HostPart.{HostPart}
+use Rattle.vk_types.specs.declared.message.Snap.{Snap}
 use Rattle.vk_types.specs.declared.op.VkOp.{VkOp}
 use Rattle.vk_types.specs.Effects.{Meaning, effect}
 use Rattle.vk_types.specs.Hazards.{is_touched, touches}
 use Rattle.vk_types.specs.Listing.{or_empty}
-use Rattle.vk_types.specs.Memory.{Memory, range}
+use Rattle.vk_types.specs.Memory.{Memory, byte_of, number_at, range}
 use Rattle.device_memory.specs.Held.{memory_of}
 use Rattle.device_memory.specs.Meant.{meaning_by}
 use Rattle.command_queue.specs.Left.{HazardsHold, left, put_all, run_commands}
@@ -64,3 +65,12 @@ Spare ds ns = AllByRecursion (λ d. (block at : ℕ) → is_among block ns ≡ t
 pub record LeadsTo (meaning : Meaning) (d : State) (m : Memory) : Type 0 where
   pub hazards : HazardsHold d.steps
   pub bytes : run_commands meaning (left d.steps) (memory_of d.held) ≡ m
+
+-- the copy is of one of these ranges, and has its bytes in this memory
+pub record IsCopyIn (m : Memory) (ranges : List Range) (snap : Snap) : Type 0 where
+  pub front : List Range
+  pub range : Range
+  pub back : List Range
+  pub listed : ranges ≡ front ++ range ∷ back
+  pub block : snap.block ≡ range.block
+  pub bytes : (k : ℕ) → number_at snap.bytes k ≡ byte_of m range k

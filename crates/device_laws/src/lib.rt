@@ -2,6 +2,7 @@
 #![tactic(auto)]
 
 ghost use Rattle.std.specs.Prelude.{◌≡◌, ℕ, suc, ◌++◌, ◌∷◌, [], List, Option, drop, true};
+ghost use Rattle.std.specs.List.{AllByRecursion};
 ghost use Rattle.vk_types.specs.declared.message.Batch.{Batch};
 ghost use Rattle.vk_types.specs.declared.message.Completion.{Completion};
 ghost use Rattle.vk_types.specs.Effects.{Meaning};
@@ -13,7 +14,7 @@ ghost use Rattle.vk_device.specs.Completing.{Completes};
 ghost use Rattle.vk_device.specs.Running.{Runs};
 ghost use Rattle.vk_device.specs.State.{State, no_state};
 ghost use Rattle.device_laws.specs.Holding.{Holds, MayGiveUp};
-ghost use Rattle.device_laws.specs.InOrder.{AreOrdered, DoesAsMeant, LeadsTo, Spare, after_batch, gone_with, host_bytes, without_blocks};
+ghost use Rattle.device_laws.specs.InOrder.{AreOrdered, DoesAsMeant, IsCopyIn, LeadsTo, Spare, after_batch, gone_with, host_bytes, without_blocks};
 ghost use Rattle.device_laws.specs.Standing.{AllFollow, IsOf, MayFollow, Stands, ops_in};
 
 /// A law of all that a device does. It stands for the batches that it accepted and completed: the commands that it ran and those
@@ -52,7 +53,8 @@ pub fn completions_keep_their_batches()
 /// A law of the bytes that a device holds. At every moment the commands that are left, run in order on what is held, make what all
 /// batches make one after another in order, whichever ready commands were run. It asks that barriers order the conflicting commands
 /// of the batches that are held, that each dispatch is run with a module that means its shader, and that no command that is left
-/// touches what the host writes for the next batch or what goes with a completion.
+/// touches what the host writes for the next batch or what goes with a completion. Then a completion's copies have the bytes of
+/// that order too.
 pub fn what_is_left_completes_what_is_held()
     ensures first { (meaning : Meaning) → LeadsTo meaning no_state zeros }
     ensures accepted { (meaning : Meaning) (log : List ℕ) (batches : List Batch) (completed : ℕ) (b : Batch) (old new : State) (m : Memory)
@@ -64,4 +66,6 @@ pub fn what_is_left_completes_what_is_held()
     ensures completed { (meaning : Meaning) (c : Completion) (old new : State) (m : Memory)
         → LeadsTo meaning old m → (is : Completes old c new) → Spare (left old.steps) (gone_with old is.batch)
         → LeadsTo meaning new (without_blocks (gone_with old is.batch) m) }
+    ensures copies { (meaning : Meaning) (c : Completion) (old new : State) (m : Memory)
+        → LeadsTo meaning old m → (is : Completes old c new) → AllByRecursion (IsCopyIn m is.batch.staging.items) c.snaps.items }
 {}
