@@ -244,6 +244,34 @@ fn first_breaks(rt: HostRuntime) -> Result<(), Fail> {
     ends(&rt, rt.alloc(), &BREAKS)
 }
 
+// Fills of one block with a barrier behind each, but for one of them.
+fn fills_and_barriers(alloc: Global, count: u32, without: u32) -> Result<Vec<VkOp>, AllocError> {
+    let mut ops = Vec::new(alloc);
+    for i in 0..count {
+        ops.push(operation(
+            alloc,
+            Op::Command(u64::from(i).wrapping_add(1), Task::Fill(BLOCK, 0)),
+        )?)?;
+        if i != without {
+            ops.push(operation(alloc, TO_ALL)?)?;
+        }
+    }
+    Ok(ops)
+}
+
+#[test]
+fn one_barrier_of_many_is_missing(rt: HostRuntime) -> Result<(), Fail> {
+    let ops = fills_and_barriers(rt.alloc(), 1_000, 700)?;
+    assert_eq!(rt; ops.len(), 1_999);
+    let end = Err(Uncovered {
+        first: 1_400,
+        second: 1_401,
+    });
+    assert_eq!(rt; is_covered(&ops)?, end);
+    assert_eq!(rt; is_covered_by_index(rt.alloc(), &ops)?, end);
+    Ok(())
+}
+
 struct Order {
     shows: &'static str,
     places: &'static [u32],
