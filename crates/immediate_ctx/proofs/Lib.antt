@@ -1,5 +1,6 @@
 pub mod Asking
 pub mod Counting
+pub mod Destroying
 pub mod Ending
 pub mod Fitting
 pub mod Growing

@@ -9,7 +9,7 @@ use Rattle.dx_types.specs.declared.range.Range.{Range}
 use Rattle.cs_chunk.specs.declared.chunk.Chunk.{Chunk}
 use Rattle.core_model.specs.Script.{Turn, Script}
 use Rattle.core_model.specs.Chunking.{is_entry, call_of, ends_call, last_call, in_list, is_due, stops_next}
-use Rattle.core_model.specs.CoreState.{Core, Segment, handed_count, later, taken_count}
+use Rattle.core_model.specs.CoreState.{Core, Segment, handed_count, later, open_number, taken_count}
 use Rattle.core_model.specs.Readings.{In_threads, may_hand_over}
 use Rattle.core_model.specs.Adding.{with_turn, has_block}
 use Rattle.core_model.specs.AppActs.{handed_over}
@@ -146,6 +146,16 @@ handed_is script names core s new chunk st due h =
       placed = h.places ∙ st.open_chunk.placed;
       pages = ap (map page_shown) h.pages ∙ st.pool.pages;
     }
+
+-- the open chunk has the state's number
+pub numbers_agree : (script : Script) (names : ℕ → ℕ) (core : Core) (s : AppState) → AppStands script names core s
+    → flight.open_number s.flight ≡ open_number core
+numbers_agree script names core s st =
+    let kept : length s.flight.kept ≡ length (later core) =
+    lengths (λ (o : OnItsWay). o.upto) (λ (t : Segment). last_call t.turns) s.flight.kept (later core)
+    st.flight.last_calls in
+    let count : handed_count core ≡ length core.taken + length (later core) = handed_length core in
+    omega (arith, kept, count, st.flight.taken)
 
 -- where 32 chunks are on their way, one of them is awaited
 some_awaited : (f : OnTheirWay) → 32 ≤ length f.kept → awaited f ≡ None → ⊥

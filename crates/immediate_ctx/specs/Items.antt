@@ -17,7 +17,8 @@ use Rattle.immediate_ctx.specs.declared.buffers.Buffer.{Buffer}
 use Rattle.immediate_ctx.specs.declared.listing.Own.TheVariants.{Op}
 use Rattle.immediate_ctx.specs.AppState.{AppState, with_passed}
 use Rattle.immediate_ctx.specs.Buffers.{Live}
-use Rattle.immediate_ctx.specs.ClassBlocks.{GetsBlock}
+use Rattle.immediate_ctx.specs.ClassBlocks.{GetsBlock, Made}
+use Rattle.immediate_ctx.specs.Tables.{Bytes}
 use Rattle.immediate_ctx.specs.Flight.{open_number}
 use Rattle.immediate_ctx.specs.Listing.{with_own}
 use Rattle.immediate_ctx.specs.OpenChunk.{Filled, once_more, with_entry, without}
@@ -76,3 +77,35 @@ abbrev pub overwrites : (call item : ℕ) → Bool → (id from len : ℕ) → A
 overwrites call item ends id from len s =
     with_passed call ends (adds (entry_at call item) false
     (writes call (record { block = block_if (ids.get s.buffers id); from = from; to = from + len }) s))
+
+-- a buffer gives its block up: one of a class has its mark, a copy of it goes, and the open chunk doesn't name it any more
+abbrev pub marks_of : Option Buffer → AppState → Made
+marks_of None s = s.blocks
+marks_of (Some b) s = cond (is_some b.class)
+    (record s.blocks { marks = ids.insert s.blocks.marks b.block (open_number s.flight) }) s.blocks
+
+abbrev pub copies_without : Option Buffer → AppState → Bytes
+copies_without None s = s.copies
+copies_without (Some b) s = ids.remove s.copies b.block
+
+abbrev pub named_without : Option Buffer → AppState → List ℕ
+named_without None s = s.open_chunk.named
+named_without (Some b) s = without b.block s.open_chunk.named
+
+abbrev pub gives_up : Option Buffer → AppState → AppState
+gives_up b s = record s {
+  blocks = marks_of b s;
+  copies = copies_without b s;
+  open_chunk = record s.open_chunk { named = named_without b s };
+}
+
+-- whether it gives a block of a class up
+abbrev pub retires_block : Option Buffer → Bool
+retires_block None = false
+retires_block (Some b) = is_some b.class
+
+-- the buffer with this id is destroyed, by a call of its own
+abbrev pub destroys : (call id : ℕ) → AppState → AppState
+destroys call id s =
+    with_passed call true (adds (record (entry_at call call) { mark = option_map (λ (b : Buffer). b.block) (ids.get s.buffers id) })
+    (retires_block (ids.get s.buffers id)) (record (gives_up (ids.get s.buffers id) s) { buffers = ids.remove s.buffers id }))

@@ -152,6 +152,16 @@ of_names names r = range (names r.res) r.from r.to
 abbrev pub AreLive : table.Live → List ResRange → Type 0
 AreLive live rs = AllByRecursion (λ r. is_some (ids.get live r.res) ≡ true) rs
 
+-- a live buffer that may be destroyed: it has a name of its own, and its block is its own; one of no class is none of the
+-- board's
+pub record IsDestroyed (names : ℕ → ℕ) (owner : ℕ → Owner) (buffers : table.Live) (id : ℕ) (b : Buffer) : Type 0 where
+  pub live : ids.get buffers id ≡ Some b
+  pub only : (other : ℕ) → names other ≡ names id → other ≡ id
+  pub since : ℕ
+  pub bound : ℕ → Bool
+  pub owned : owner b.block ≡ Live (names id) since bound
+  pub own : b.class ≡ None → has_class b.block ≡ false
+
 -- a play that changes no block, and these ranges that it binds
 abbrev pub IsPlain : Play → List ResRange → Type 0
 IsPlain (Create buffer bytes) rs = ⊥

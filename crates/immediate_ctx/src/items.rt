@@ -2,7 +2,7 @@ ghost use Rattle.std.specs.Prelude.{◌≡◌, ◌+◌, ◌<◌, ◌≤◌, ◌^
 ghost use Rattle.dx_types.specs.declared.limits.TheConstants.{MAX_BUFFER_SIZE};
 ghost use Rattle.immediate_ctx.specs.Due.{is_full_by};
 ghost use Rattle.immediate_ctx.specs.Items as items;
-ghost use Rattle.immediate_ctx.specs.Items.{adds, block_if, overwrites, plain, uses, with_shader, with_use_of, with_uses, writes};
+ghost use Rattle.immediate_ctx.specs.Items.{adds, block_if, destroys, gives_up, overwrites, plain, retires_block, uses, with_shader, with_use_of, with_uses, writes};
 ghost use Rattle.immediate_ctx.specs.OpenChunk.{nothing_filled, staged_by};
 
 use crate::app_part::AppPart;
@@ -70,6 +70,40 @@ impl AppPart {
         Ok(())
     }
 
+    /// The call destroys the live buffer with this id, which gives its block up: one of a class gets the open chunk's mark, a
+    /// staging buffer's copy goes, and the open chunk doesn't name it any more.
+    pub fn destroy(&mut self, call: CallNo, id: u32) -> Result<(), AllocError>
+        requires { is_full_by self.old.open_chunk.counts ≡ false }
+        ensures { OnOk result (self.new ≡ destroys call id self.old) }
+    {
+        let buffer = self.buffers.get(id);
+        self.give_up(buffer)?;
+        self.buffers.remove(id);
+        let mut entry = entry_at(call, call);
+        entry.mark = buffer.map(|b| b.block);
+        self.add(entry, retires_block(buffer))?;
+        self.pass(call, true);
+        Ok(())
+    }
+
+    // The block of this buffer is given up.
+    fn give_up(&mut self, buffer: Option<Buffer>) -> Result<(), AllocError>
+        ensures { OnOk result (self.new ≡ gives_up buffer self.old) }
+    {
+        let Some(buffer) = buffer else {
+            return Ok(());
+        };
+        if buffer.class.is_some() {
+            let chunk = self.flight.next()?;
+            self.blocks.mark(buffer.block, chunk)?;
+        }
+        self.copies.forget(buffer.block);
+        if let Some(chunk) = &mut self.open_chunk {
+            chunk.destroys(buffer.block);
+        }
+        Ok(())
+    }
+
     // The host writes to a range, by a call. An empty range has no write.
     fn write(&mut self, call: CallNo, range: Range) -> Result<(), AllocError>
         ensures { OnOk result (self.new ≡ writes call range self.old) }
@@ -123,6 +157,15 @@ fn entry_at(call: CallNo, item: CallNo) -> Entry
         block: None,
         mark: None,
         staged: None,
+    }
+}
+
+fn retires_block(buffer: Option<Buffer>) -> bool
+    ensures { result ≡ retires_block buffer }
+{
+    match buffer {
+        Some(buffer) => buffer.class.is_some(),
+        None => false,
     }
 }
 

@@ -33,7 +33,7 @@ pub use open_chunk::OpenChunk;
 pub use readback::{Readback, readback_of, readbacks_as_in_the_model};
 pub use staging::Staging;
 pub use stands::{
-    answers_stand_as_given, chunks_stand_as_handed_over, first_posts_fit,
+    answers_stand_as_given, chunks_stand_as_handed_over, destroys_stand, first_posts_fit,
     flight_stands_after_posts, listing_expands_in_order, listing_stands_as_it_grows,
     plain_items_stand,
 };

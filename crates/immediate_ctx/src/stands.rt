@@ -1,9 +1,10 @@
 ghost use Rattle.std.specs.Prelude.{◌≡◌, ◌<◌, ◌≤◌, ℕ, Bool, suc, true, false, List, length, [], ◌∷◌, ◌++◌, None, Some, slice_get, Option};
 ghost use Rattle.cs_chunk.specs.declared.chunk.Chunk.{Chunk};
 ghost use Rattle.dx_types.specs.declared.range.ResRange.{ResRange};
-ghost use Rattle.core_model.specs.Script.{Ask, Asked, Create_shader, No_overwrite, Play, Script, Turn};
+ghost use Rattle.core_model.specs.Script.{Ask, Asked, Create_shader, Destroy, No_overwrite, Play, Script, Turn};
 ghost use Rattle.core_model.specs.Kept.{BlocksRight};
-ghost use Rattle.immediate_ctx.specs.Items.{overwrites, plain, with_shader};
+ghost use Rattle.immediate_ctx.specs.Items.{destroys, overwrites, plain, with_shader};
+ghost use Rattle.immediate_ctx.specs.declared.buffers.Buffer.{Buffer};
 ghost use Rattle.core_model.specs.Chunking.{call_of, ends_call, is_due, is_entry, stops_next};
 ghost use Rattle.core_model.specs.Readings.{In_threads, Reading, may_hand_over};
 ghost use Rattle.core_model.specs.Adding.{with_reply, with_turn};
@@ -20,7 +21,7 @@ ghost use Rattle.immediate_ctx.specs.Readback.{readback_of};
 ghost use Rattle.immediate_ctx.specs.declared.readback.Readback.TheVariants.{Still, Waits};
 ghost use Rattle.immediate_ctx.specs.Flight.{Fits, OnTheirWay, TakesFirst, awaited, last_upto};
 ghost use Rattle.immediate_ctx.specs.Listing.{Kept, expand, with_batch, with_own};
-ghost use Rattle.immediate_ctx.specs.Stands.{AppStands, AreLive, FlightStands, IsPlain, PlaysTo, IsOpenChunk, IsPostFor, ListingStands, behind_posts, handed_in};
+ghost use Rattle.immediate_ctx.specs.Stands.{AppStands, AreLive, FlightStands, IsDestroyed, IsPlain, PlaysTo, IsOpenChunk, IsPostFor, ListingStands, behind_posts, handed_in};
 
 /// Laws of the chunks on their way: where they stand for a state, they do after its next Post was taken, and the chunk that was handed
 /// over last has the call that the end waits for.
@@ -83,6 +84,15 @@ pub fn plain_items_stand()
     ensures shader { (script : Script) (names : ℕ → ℕ) (core : Core) (s : AppState) → AppStands script names core s
         → BlocksRight script core.blocks core.is_staging core.owner → (reading : Reading) (call : ℕ) (ts : List Turn)
         → PlaysTo reading script names call call true Create_shader [] ts core (with_shader call s) }
+{}
+
+/// The law of the destroy of a live buffer that has a name and a block of its own. Where the recorder stands for a state, and the
+/// destroy comes next, its turn leads the state to one that the recorder stands for when it destroyed the buffer.
+pub fn destroys_stand()
+    ensures { (script : Script) (names : ℕ → ℕ) (core : Core) (s : AppState) → AppStands script names core s
+        → (id : ℕ) (b : Buffer) → IsDestroyed names core.owner s.buffers id b
+        → (reading : Reading) (call : ℕ) (ts : List Turn)
+        → PlaysTo reading script names call call true (Destroy (names id)) [] ts core (destroys call id s) }
 {}
 
 /// Laws of the end and of calls that ask. Where the last chunk is finished, the end is the model's next act. A pending call is told its
