@@ -21,7 +21,7 @@ pub struct Core<'a> {
     alloc: Global,
     log: &'a Log<'a>,
     plan: &'a Plan,
-    machine: Option<Machine>,
+    machine: Option<Machine<'a>>,
     taken: CallNo,
     flight: Flight,
     ended: bool,

@@ -12,12 +12,12 @@ use dx_types::{CallNo, Refusal, Reply};
 use std::alloc::{AllocError, Global};
 
 /// Plays call n of a log by its plan: what a run says of it. The state is lost where memory runs out in the middle.
-pub(crate) fn play_call(
+pub(crate) fn play_call<'a>(
     alloc: Global,
-    log: &Log<'_>,
+    log: &'a Log<'_>,
     plan: &Plan,
     n: CallNo,
-    machine: &mut Option<Machine>,
+    machine: &mut Option<Machine<'a>>,
 ) -> Result<Option<Reply>, AllocError>
     requires first { 1 ≤ n }
     requires last { n ≤ length log.now.frames }
@@ -36,12 +36,12 @@ pub(crate) fn play_call(
 }
 
 /// Plays call n as a command, of which nothing is said.
-pub(crate) fn play_command(
+pub(crate) fn play_command<'a>(
     alloc: Global,
-    log: &Log<'_>,
+    log: &'a Log<'_>,
     plan: &Plan,
     n: CallNo,
-    machine: &mut Option<Machine>,
+    machine: &mut Option<Machine<'a>>,
 ) -> Result<(), AllocError>
     requires first { 1 ≤ n }
     requires last { n ≤ length log.now.frames }

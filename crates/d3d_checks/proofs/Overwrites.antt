@@ -1,5 +1,5 @@
 -- Why bytes are not written over those that are not in use, by what is kept of the past that a context asks.
-use Rattle.std.proofs.Common.{◌≡◌, ℕ, ◌+◌, Bool, true, false, not, ◌&&◌, ◌||◌, List, [], ◌∷◌, length, Option, Some, None, refl, ap, subst, ◌∙◌}
+use Rattle.std.proofs.Common.{◌≡◌, ℕ, ◌+◌, Bool, true, false, not, ◌&&◌, ◌||◌, List, [], ◌∷◌, length, Option, Some, refl, ap, subst, ◌∙◌}
 use Rattle.std.specs.Prelude.{◌==◌, nat_lt, is_some, IsSome, if◌then◌else◌}
 use Rattle.std.specs.List.{list_any}
 use Rattle.std.proofs.lemmas.Bool.{eq-eqb, ne_eqb}
@@ -10,7 +10,7 @@ use Rattle.d3d_model.specs.Binding.{default_bindings}
 use Rattle.d3d_model.specs.Check.{Check, first_failed}
 use Rattle.d3d_model.specs.D3dState.{Objects, buffer_of, context_of}
 use Rattle.d3d_model.specs.Resource.{is_dynamic, is_one, is_staging, size_of}
-use Rattle.d3d_model.specs.Past.{Deed, Done, Past, makes, then_done, was_discarded}
+use Rattle.d3d_model.specs.Past.{Deed, Past, makes, then_done, was_discarded}
 use Rattle.d3d_model.specs.Stream.{deeds_of_list, past_of_list}
 use Rattle.d3d_model.specs.Verdict.{in_use, map_write_checks, no_overwrite_checks}
 use Rattle.d3d_model.proofs.Pasts.{list_makes_none}

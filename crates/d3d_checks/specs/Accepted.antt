@@ -1,8 +1,7 @@
--- Which calls are built, and which of the immediate context are accepted.
+-- Which calls are built, and which are accepted.
 use Rattle.std.specs.Prelude.{◌≡◌, ℕ, ◌==◌, Bool, true, false, not, ◌&&◌, None, IsSome}
 use Rattle.call_log.specs.Call as calls
 use Rattle.call_log.specs.Call.{Call, Issued}
-use Rattle.base_lemmas.specs.IdMap.{empty}
 use Rattle.d3d_model.specs.D3dState.{Objects, buffer_of}
 use Rattle.d3d_model.specs.Past.{Past}
 use Rattle.d3d_model.specs.Verdict.{verdict, is_wrong_at, place_of}
@@ -24,12 +23,11 @@ is_unbuilt i = is_recorded i
 abbrev pub is_built : Call → Bool
 is_built c = not (is_draw c)
 
--- a call that is built is accepted on the immediate context, after some calls, where no list is live
-pub record Accepted (o : Objects) (c : Call) : Type 0 where
+-- a call that is built is accepted on a context, after some calls
+pub record Accepted (o : Objects) (x : ℕ) (c : Call) : Type 0 where
   pub built : is_built c ≡ true
-  pub unlisted : o.lists ≡ empty
   pub past : Past
-  pub passes : verdict o past (record { context = 0; call = c }) ≡ None
+  pub passes : verdict o past (record { context = x; call = c }) ≡ None
 
 -- what is kept of the past answers what is asked of it, of each live buffer
 abbrev pub Tells : Past → Objects → Uses → Type 0

@@ -16,5 +16,6 @@ mod work;
 
 pub use new_view::{NewView, described};
 pub use numbers::shape_from;
+pub use places::place_of;
 pub use refusals::verdict;
 pub use shaders::decode_created;

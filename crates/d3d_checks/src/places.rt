@@ -9,7 +9,7 @@ use d3d_state::Objects;
 use dx_types::limits::{DEFERRED_CONTEXTS, MAX_LIST_CALLS};
 
 /// On which contexts a call may stand.
-pub(crate) fn place_of(call: &Call<'_>) -> Place
+pub fn place_of(call: &Call<'_>) -> Place
     ensures { result ≡ place_of (call_view call.now) }
 {
     match call {

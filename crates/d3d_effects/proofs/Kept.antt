@@ -1,5 +1,5 @@
 -- What is kept of the past still tells of it after a call.
-use Rattle.std.proofs.Common.{◌≡◌, ℕ, Bool, true, false, cond, List, map, Option, None, refl, sym, ap, subst, inl, inr, ◌∙◌}
+use Rattle.std.proofs.Common.{◌≡◌, ℕ, Bool, true, false, cond, List, map, Option, None, refl, sym, subst, inl, inr}
 use Rattle.std.specs.Prelude.{◌==◌, IsSome, if◌then◌else◌, ◌≢◌}
 use Rattle.std.specs.Borrow.{Bor}
 use Rattle.std.specs.Ordering.{nat_cmp, eq_by_cmp}
@@ -19,10 +19,9 @@ use Rattle.d3d_model.specs.Resource.{Buffers}
 use Rattle.d3d_model.specs.Stream.{binds}
 use Rattle.base_lemmas.proofs.Maps.{get_other, get-remove}
 use Rattle.d3d_uses.specs.Summary.{Uses, Summarises, Records, RecordsMaking, Forgets}
-use Rattle.d3d_checks.specs.Accepted.{Accepted, Tells}
-use Rattle.d3d_effects.specs.Bound.{bound_of}
-use Rattle.d3d_effects.proofs.BoundRanges.{only_bound, bound_write}
-use Rattle.d3d_effects.proofs.Passes.{differs, executes_none}
+use Rattle.d3d_checks.specs.Accepted.{Tells}
+use Rattle.d3d_effects.specs.Bound.{is_execution}
+use Rattle.d3d_effects.proofs.Passes.{differs}
 
 -- ---- a buffer is made
 
@@ -72,9 +71,9 @@ tells_records past o after old new n deeds done same e records tells = λ res li
     subst (λ (ds : List Deed). Summarises (then_done n past ds) new res) e (records past res (tells res (subst (λ (b : Buffers). IsSome (get b res)) same live)))
 
 -- the deeds of a map that doesn't discard
-pub write_deeds : (o : Objects) (res mode offset : ℕ) (bytes : List ℕ) → (mode ≡ 0 → ⊥) → map Binds (bound_of o (calls.MapWrite res mode offset bytes)) ≡ deeds_by o 0 (calls.MapWrite res mode offset bytes)
+pub write_deeds : (o : Objects) (res mode offset : ℕ) (bytes : List ℕ) → (mode ≡ 0 → ⊥) → map Binds (binds o (bindings_of o 0) (calls.MapWrite res mode offset bytes)) ≡ deeds_by o 0 (calls.MapWrite res mode offset bytes)
 write_deeds o res mode offset bytes apart =
-    ap (map Binds) (bound_write o res mode offset bytes) ∙ rw (differs mode 0 apart) refl
+    rw (differs mode 0 apart) refl
 
 -- the call makes no buffer, destroys nothing and writes no mapped buffer
 pub record IsPlain (c : code.Call) : Type 0 where
@@ -82,36 +81,36 @@ pub record IsPlain (c : code.Call) : Type 0 where
   pub destroy : (class id : ℕ) → c ≡ codes.Destroy class id → ⊥
   pub write : (res mode offset : ℕ) (bytes : Bor (List ℕ)) → c ≡ codes.MapWrite res mode offset bytes → ⊥
 
-pub plain_deeds : (o : Objects) (c : code.Call) → IsPlain c → Accepted o (call_view c)
-    → map Binds (bound_of o (call_view c)) ≡ deeds_by o 0 (call_view c)
+pub plain_deeds : (o : Objects) (c : code.Call) → IsPlain c → is_execution (call_view c) ≡ false
+    → map Binds (binds o (bindings_of o 0) (call_view c)) ≡ deeds_by o 0 (call_view c)
 plain_deeds o (codes.Buffer id size usage bind misc stride bytes) plain a = absurd (plain.buffer id size usage bind misc stride bytes refl)
 plain_deeds o (codes.View view res kind form components first count) plain a = refl
 plain_deeds o (codes.CreateShader id words) plain a = refl
 plain_deeds o (codes.Query id sort) plain a = refl
 plain_deeds o (codes.Destroy class id) plain a = absurd (plain.destroy class id refl)
-plain_deeds o (codes.SetShader id) plain a = ap (map Binds) (only_bound (binds o (bindings_of o 0) (call_view (codes.SetShader id))))
-plain_deeds o (codes.SetConstant slot res) plain a = ap (map Binds) (only_bound (binds o (bindings_of o 0) (call_view (codes.SetConstant slot res))))
-plain_deeds o (codes.SetSrv slot view) plain a = ap (map Binds) (only_bound (binds o (bindings_of o 0) (call_view (codes.SetSrv slot view))))
-plain_deeds o (codes.SetUav slot view) plain a = ap (map Binds) (only_bound (binds o (bindings_of o 0) (call_view (codes.SetUav slot view))))
-plain_deeds o codes.ClearState plain a = ap (map Binds) (only_bound (binds o (bindings_of o 0) (call_view codes.ClearState)))
-plain_deeds o (codes.Dispatch x y z) plain a = ap (map Binds) (only_bound (binds o (bindings_of o 0) (call_view (codes.Dispatch x y z))))
-plain_deeds o (codes.DispatchIndirect res offset) plain a = ap (map Binds) (only_bound (binds o (bindings_of o 0) (call_view (codes.DispatchIndirect res offset))))
-plain_deeds o (codes.CopyRegion target target_offset source source_offset len) plain a = ap (map Binds) (only_bound (binds o (bindings_of o 0) (call_view (codes.CopyRegion target target_offset source source_offset len))))
-plain_deeds o (codes.Copy target source) plain a = ap (map Binds) (only_bound (binds o (bindings_of o 0) (call_view (codes.Copy target source))))
-plain_deeds o (codes.Update res offset bytes) plain a = ap (map Binds) (only_bound (binds o (bindings_of o 0) (call_view (codes.Update res offset bytes))))
-plain_deeds o (codes.ClearUav view v0 v1 v2 v3) plain a = ap (map Binds) (only_bound (binds o (bindings_of o 0) (call_view (codes.ClearUav view v0 v1 v2 v3))))
-plain_deeds o (codes.SetPredication kind id offset value) plain a = ap (map Binds) (only_bound (binds o (bindings_of o 0) (call_view (codes.SetPredication kind id offset value))))
-plain_deeds o (codes.Begin query) plain a = ap (map Binds) (only_bound (binds o (bindings_of o 0) (call_view (codes.Begin query))))
-plain_deeds o (codes.EndQuery query) plain a = ap (map Binds) (only_bound (binds o (bindings_of o 0) (call_view (codes.EndQuery query))))
+plain_deeds o (codes.SetShader id) plain a = refl
+plain_deeds o (codes.SetConstant slot res) plain a = refl
+plain_deeds o (codes.SetSrv slot view) plain a = refl
+plain_deeds o (codes.SetUav slot view) plain a = refl
+plain_deeds o codes.ClearState plain a = refl
+plain_deeds o (codes.Dispatch x y z) plain a = refl
+plain_deeds o (codes.DispatchIndirect res offset) plain a = refl
+plain_deeds o (codes.CopyRegion target target_offset source source_offset len) plain a = refl
+plain_deeds o (codes.Copy target source) plain a = refl
+plain_deeds o (codes.Update res offset bytes) plain a = refl
+plain_deeds o (codes.ClearUav view v0 v1 v2 v3) plain a = refl
+plain_deeds o (codes.SetPredication kind id offset value) plain a = refl
+plain_deeds o (codes.Begin query) plain a = refl
+plain_deeds o (codes.EndQuery query) plain a = refl
 plain_deeds o (codes.MapWrite res mode offset bytes) plain a = absurd (plain.write res mode offset bytes refl)
 plain_deeds o (codes.MapRead res flag offset len) plain a = refl
 plain_deeds o (codes.GetData query flag) plain a = refl
 plain_deeds o codes.Flush plain a = refl
 plain_deeds o (codes.FinishList list) plain a = refl
-plain_deeds o (codes.ExecuteList list flag) plain a = absurd (executes_none o list flag a)
-plain_deeds o (codes.Draw kind body) plain a = ap (map Binds) (only_bound (binds o (bindings_of o 0) (call_view (codes.Draw kind body))))
+plain_deeds o (codes.ExecuteList list flag) plain a = absurd cc
+plain_deeds o (codes.Draw kind body) plain a = refl
 
-pub plain_buffers : (o : Objects) (n : ℕ) (c : code.Call) → IsPlain c → Accepted o (call_view c)
+pub plain_buffers : (o : Objects) (n : ℕ) (c : code.Call) → IsPlain c → is_execution (call_view c) ≡ false
     → (objects_after n o 0 (call_view c)).buffers ≡ o.buffers
 plain_buffers o n (codes.Buffer id size usage bind misc stride bytes) plain a = absurd (plain.buffer id size usage bind misc stride bytes refl)
 plain_buffers o n (codes.View view res kind form components first count) plain a = refl
@@ -137,5 +136,5 @@ plain_buffers o n (codes.MapRead res flag offset len) plain a = refl
 plain_buffers o n (codes.GetData query flag) plain a = refl
 plain_buffers o n codes.Flush plain a = refl
 plain_buffers o n (codes.FinishList list) plain a = refl
-plain_buffers o n (codes.ExecuteList list flag) plain a = absurd (executes_none o list flag a)
+plain_buffers o n (codes.ExecuteList list flag) plain a = absurd cc
 plain_buffers o n (codes.Draw kind body) plain a = refl

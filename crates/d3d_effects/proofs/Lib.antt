@@ -1,6 +1,10 @@
 mod Passes
 mod NoEffect
-mod BoundRanges
+mod ListsPlayed
+pub mod BoundRanges
 mod Slots
 mod Kept
-pub mod Unlisted
+pub mod ListCalls
+pub mod Opened
+pub mod Parts
+pub mod Fits

@@ -1,56 +1,65 @@
--- Calls of the immediate context that change no object.
-use Rattle.std.proofs.Common.{◌≡◌, ℕ, List, false, refl, sym, ap}
+-- Calls that make, set or finish nothing.
+use Rattle.std.proofs.Common.{◌≡◌, ℕ, List, refl, sym, ap}
+use Rattle.std.specs.Borrow.{Bor}
 use Rattle.std.proofs.lemmas.List.{set-get_or}
 use Rattle.call_log.specs.View.{call_view}
 use Rattle.call_log.specs.declared.call.Call as code
 use Rattle.call_log.specs.declared.call.Call.TheVariants as codes
-use Rattle.d3d_model.specs.D3dState.{Context, Objects, bindings_of, default_context, with_bindings}
-use Rattle.d3d_model.specs.Effect.{objects_after}
-use Rattle.d3d_checks.specs.Accepted.{Accepted}
-use Rattle.d3d_effects.specs.Creations.{is_creation}
-use Rattle.d3d_effects.proofs.Passes.{executes_none}
+use Rattle.base_lemmas.specs.IdMap.{IdMap}
+use Rattle.d3d_model.specs.Binding.{Bindings}
+use Rattle.d3d_model.specs.D3dState.{Context, Objects, Query, bindings_of, default_context, with_bindings}
+use Rattle.d3d_model.specs.Effect.{immediate_effect, list_of, made_by, queries_after}
+use Rattle.d3d_model.specs.Stream.{set_by}
 
 -- what is set, once more, changes nothing
-pub same_again : (o : Objects) → o ≡ with_bindings o 0 (bindings_of o 0)
-same_again o = sym (ap (λ (cs : List Context). record o { contexts = cs }) (set-get_or o.contexts 0 default_context))
+pub same_again : (o : Objects) (x : ℕ) → o ≡ with_bindings o x (bindings_of o x)
+same_again o x = sym (ap (λ (cs : List Context). record o { contexts = cs }) (set-get_or o.contexts x default_context))
 
--- the call is none of those that set or destroy something, or that begin or end a query
-pub record IsIdle (c : code.Call) : Type 0 where
+-- the call makes and destroys nothing
+pub record MakesNone (c : code.Call) : Type 0 where
+  pub buffer : (id size usage bind misc stride : ℕ) (bytes : Bor (List ℕ)) → c ≡ codes.Buffer id size usage bind misc stride bytes → ⊥
+  pub view : (view res kind form components first count : ℕ) → c ≡ codes.View view res kind form components first count → ⊥
+  pub shader : (id : ℕ) (words : Bor (List ℕ)) → c ≡ codes.CreateShader id words → ⊥
+  pub query : (id sort : ℕ) → c ≡ codes.Query id sort → ⊥
   pub destroy : (class id : ℕ) → c ≡ codes.Destroy class id → ⊥
+
+pub makes_none : (n : ℕ) (o : Objects) (c : code.Call) → MakesNone c → o ≡ made_by n o (call_view c)
+makes_none n o (codes.Buffer id size usage bind misc stride bytes) none = absurd (none.buffer id size usage bind misc stride bytes refl)
+makes_none n o (codes.View view res kind form components first count) none = absurd (none.view view res kind form components first count refl)
+makes_none n o (codes.CreateShader id words) none = absurd (none.shader id words refl)
+makes_none n o (codes.Query id sort) none = absurd (none.query id sort refl)
+makes_none n o (codes.Destroy class id) none = absurd (none.destroy class id refl)
+makes_none n o _ none = refl
+
+pub executes_none : (n : ℕ) (o : Objects) (c : code.Call) → ((list flag : ℕ) → c ≡ codes.ExecuteList list flag → ⊥) → o ≡ immediate_effect n o (call_view c)
+executes_none n o (codes.ExecuteList list flag) none = absurd (none list flag refl)
+executes_none n o _ none = refl
+
+pub finishes_none : (c : code.Call) → ((list : ℕ) → c ≡ codes.FinishList list → ⊥) → 0 ≡ list_of (call_view c)
+finishes_none (codes.FinishList list) none = absurd (none list refl)
+finishes_none _ none = refl
+
+-- it begins and ends no query
+pub asks_none : (n : ℕ) (queries : IdMap Query) (c : code.Call) → ((q : ℕ) → c ≡ codes.Begin q → ⊥) → ((q : ℕ) → c ≡ codes.EndQuery q → ⊥)
+    → queries ≡ queries_after n queries (call_view c)
+asks_none n queries (codes.Begin q) begin end = absurd (begin q refl)
+asks_none n queries (codes.EndQuery q) begin end = absurd (end q refl)
+asks_none n queries _ begin end = refl
+
+-- the call is none of those that set something
+pub record SetsNone (c : code.Call) : Type 0 where
   pub shader : (id : ℕ) → c ≡ codes.SetShader id → ⊥
   pub constant : (slot res : ℕ) → c ≡ codes.SetConstant slot res → ⊥
   pub srv : (slot view : ℕ) → c ≡ codes.SetSrv slot view → ⊥
   pub uav : (slot view : ℕ) → c ≡ codes.SetUav slot view → ⊥
   pub clear : c ≡ codes.ClearState → ⊥
   pub predication : (kind id offset value : ℕ) → c ≡ codes.SetPredication kind id offset value → ⊥
-  pub begin : (query : ℕ) → c ≡ codes.Begin query → ⊥
-  pub end : (query : ℕ) → c ≡ codes.EndQuery query → ⊥
 
-pub no_effect : (o : Objects) (n : ℕ) (c : code.Call) → IsIdle c → is_creation (call_view c) ≡ false
-    → Accepted o (call_view c) → o ≡ objects_after n o 0 (call_view c)
-no_effect o n (codes.Buffer id size usage bind misc stride bytes) idle new a = absurd cc
-no_effect o n (codes.View view res kind form components first count) idle new a = absurd cc
-no_effect o n (codes.CreateShader id words) idle new a = absurd cc
-no_effect o n (codes.Query id sort) idle new a = absurd cc
-no_effect o n (codes.Destroy class id) idle new a = absurd (idle.destroy class id refl)
-no_effect o n (codes.SetShader id) idle new a = absurd (idle.shader id refl)
-no_effect o n (codes.SetConstant slot res) idle new a = absurd (idle.constant slot res refl)
-no_effect o n (codes.SetSrv slot view) idle new a = absurd (idle.srv slot view refl)
-no_effect o n (codes.SetUav slot view) idle new a = absurd (idle.uav slot view refl)
-no_effect o n codes.ClearState idle new a = absurd (idle.clear refl)
-no_effect o n (codes.Dispatch x y z) idle new a = same_again o
-no_effect o n (codes.DispatchIndirect res offset) idle new a = same_again o
-no_effect o n (codes.CopyRegion target target_offset source source_offset len) idle new a = same_again o
-no_effect o n (codes.Copy target source) idle new a = same_again o
-no_effect o n (codes.Update res offset bytes) idle new a = same_again o
-no_effect o n (codes.ClearUav view v0 v1 v2 v3) idle new a = same_again o
-no_effect o n (codes.SetPredication kind id offset value) idle new a = absurd (idle.predication kind id offset value refl)
-no_effect o n (codes.Begin query) idle new a = absurd (idle.begin query refl)
-no_effect o n (codes.EndQuery query) idle new a = absurd (idle.end query refl)
-no_effect o n (codes.MapWrite res mode offset bytes) idle new a = same_again o
-no_effect o n (codes.MapRead res flag offset len) idle new a = refl
-no_effect o n (codes.GetData query flag) idle new a = refl
-no_effect o n codes.Flush idle new a = refl
-no_effect o n (codes.FinishList list) idle new a = let e = a.passes in absurd cc
-no_effect o n (codes.ExecuteList list flag) idle new a = absurd (executes_none o list flag a)
-no_effect o n (codes.Draw kind body) idle new a = let e = a.built in absurd cc
+pub sets_none : (o : Objects) (b : Bindings) (c : code.Call) → SetsNone c → b ≡ set_by o b (call_view c)
+sets_none o b (codes.SetShader id) none = absurd (none.shader id refl)
+sets_none o b (codes.SetConstant slot res) none = absurd (none.constant slot res refl)
+sets_none o b (codes.SetSrv slot view) none = absurd (none.srv slot view refl)
+sets_none o b (codes.SetUav slot view) none = absurd (none.uav slot view refl)
+sets_none o b codes.ClearState none = absurd (none.clear refl)
+sets_none o b (codes.SetPredication kind id offset value) none = absurd (none.predication kind id offset value refl)
+sets_none o b _ none = refl

@@ -1,2 +1,4 @@
 pub mod Bound
-pub mod Creations
+pub mod Played
+pub mod Listed
+pub mod Slots

@@ -1,36 +1,37 @@
 ghost use Rattle.std.specs.Prelude.{◌≡◌, ◌+◌, ◌++◌, ◌<◌, ◌^◌, length, OnOk};
 ghost use Rattle.std.specs.Option.{option_to_list};
 ghost use Rattle.call_log.specs.View.{call_view};
-ghost use Rattle.d3d_checks.specs.Accepted.{Accepted};
-ghost use Rattle.d3d_effects.specs.Bound.{bound_of};
+ghost use Rattle.d3d_lists.specs.declared.recorder.TheConstants.{CONTEXTS};
 ghost use Rattle.d3d_model.specs.Binding.{bound_range};
 ghost use Rattle.d3d_model.specs.D3dState.{bindings_of, bound_view};
-ghost use Rattle.d3d_model.specs.Stream.{predicated, range_of, whole_of};
+ghost use Rattle.d3d_model.specs.Stream.{binds, predicated, range_of, whole_of};
 ghost use Rattle.d3d_state.specs.Meaning.{objects_of};
 
 use crate::dispatches::push_dispatch;
 use call_log::Call;
 use d3d_model::codes::{COUNT_BYTES, MAP_WRITE};
 use d3d_state::Objects;
-use d3d_views::view_range;
+use d3d_views::{Bindings, view_range};
 use dx_types::ResRange;
 use std::alloc::AllocError;
 
-/// Appends the ranges that an accepted call of the immediate context binds.
+/// Appends the ranges that a call binds on a context. An ExecuteList binds nothing by itself: its list's calls do.
 pub fn push_bound(
     ranges: &mut Vec<ResRange>,
     objects: &Objects<'_>,
+    context: u16,
     call: &Call<'_>,
 ) -> Result<(), AllocError>
-    requires { Accepted (objects_of objects.now) (call_view call.now) }
-    ensures { OnOk result (ranges.new.items
-        ≡ ranges.old.items ++ bound_of (objects_of objects.now) (call_view call.now)) }
+    requires { context < CONTEXTS }
+    ensures { let o = objects_of objects.now in
+        OnOk result (ranges.new.items ≡ ranges.old.items ++ binds o (bindings_of o context) (call_view call.now)) }
 {
+    let bindings = objects.bindings(context);
     match *call {
-        Call::Dispatch { .. } => push_dispatch(ranges, objects),
+        Call::Dispatch { .. } => push_dispatch(ranges, objects, bindings),
         Call::DispatchIndirect { res, offset } => {
             push_some(ranges, range_of(res, u64::from(offset), COUNT_BYTES))?;
-            push_dispatch(ranges, objects)
+            push_dispatch(ranges, objects, bindings)
         }
         Call::CopyRegion {
             target,
@@ -41,19 +42,19 @@ pub fn push_bound(
         } => {
             let from = range_of(source, u64::from(source_offset), u64::from(length));
             let to = range_of(target, u64::from(target_offset), u64::from(length));
-            push_predicated(ranges, objects, from, to)
+            push_predicated(ranges, bindings, from, to)
         }
         Call::Copy { target, source } => {
             let from = whole_of(objects, source);
             let to = whole_of(objects, target);
-            push_predicated(ranges, objects, from, to)
+            push_predicated(ranges, bindings, from, to)
         }
         Call::Update { res, offset, bytes } => {
-            push_predicated(ranges, objects, range_written(res, offset, bytes), None)
+            push_predicated(ranges, bindings, range_written(res, offset, bytes), None)
         }
         Call::ClearUav { view, .. } => {
             let written = range_of_view(objects, view);
-            push_predicated(ranges, objects, written, None)
+            push_predicated(ranges, bindings, written, None)
         }
         Call::MapWrite {
             res,
@@ -124,17 +125,17 @@ pub(crate) fn push_some(
 /// Appends two ranges, as far as they have bytes; and if one has, the word that the predicate reads.
 fn push_predicated(
     ranges: &mut Vec<ResRange>,
-    objects: &Objects<'_>,
+    bindings: &Bindings,
     one: Option<ResRange>,
     two: Option<ResRange>,
 ) -> Result<(), AllocError>
     ensures { OnOk result (ranges.new.items ≡ ranges.old.items
-        ++ predicated (bindings_of (objects_of objects.now) 0) (option_to_list one ++ option_to_list two)) }
+        ++ predicated bindings.now (option_to_list one ++ option_to_list two)) }
 {
     push_some(ranges, one)?;
     push_some(ranges, two)?;
     if one.is_some() || two.is_some() {
-        push_some(ranges, objects.bindings(0).predicate_word())?;
+        push_some(ranges, bindings.predicate_word())?;
     }
     Ok(())
 }

@@ -31,8 +31,9 @@ use Rattle.d3d_model.specs.Memory.{uavs_shown, slots_seen, write_if, write, copi
 use Rattle.d3d_model.specs.InOrder.{State, unless_refused, verdict_in, after_call, after_calls, before_call}
 use Rattle.base_lemmas.proofs.Maps.{get-empty, get-insert, get-remove}
 use Rattle.d3d_model.proofs.Checked.{Passed, all_passed}
-use Rattle.d3d_model.proofs.Sized.{sized, same_buffers_all}
-use Rattle.d3d_memory.specs.Limits.{InLimits}
+use Rattle.d3d_model.proofs.Sized.{sized, same_buffers_all, same_run}
+use Rattle.d3d_memory.specs.Limits.{HasRoom, InLimits}
+use Rattle.d3d_memory.proofs.Lengths.{same_length}
 
 some_back : {X : Type 0} (x y : X) → Some x ≡ Some y → x ≡ y
 some_back x y e = cc
@@ -368,3 +369,30 @@ few_calls bytes frames log small =
 -- the state that a call of a log meets, and the last one
 pub log_in_limits : (bytes : List ℕ) (frames : List Frame) (n : ℕ) → IsLog bytes frames → length bytes ≤ 67108864 → n ≤ length frames + 1 → InLimits (before_call (calls_of frames) n).memory
 log_in_limits bytes frames n log small h = in_limits (calls_of frames) n (omega (arith, h, few_calls bytes frames log small))
+
+-- ---- while a list is played
+
+-- a call that is played takes the room of one
+pub room_after : (o : Objects) (m : Memory) (c : Call) (k : ℕ) → HasRoom m (suc k) → HasRoom (run o m c) k
+room_after o m c k h = record {
+  bytes = λ id. omega (arith, h.bytes id, same_length m (run o m c) id (same_run o m c));
+  ran = omega (arith, h.ran, ran_run o m c);
+}
+
+pub in_room : (m : Memory) (k : ℕ) → HasRoom m k → InLimits m
+in_room m k h = record { bytes = h.bytes; ran = omega (arith, h.ran) }
+
+room : (log : List Issued) (n : ℕ) → n ≤ 8388607 → (list : ℕ) → HasRoom (before_call log n).memory (length (calls_of_list (before_call log n).objects list))
+room log zero h list = record {
+  bytes = (in_limits log zero h).bytes;
+  ran = omega (arith, short_list (get (empty {X = List Numbered}) list) (λ cs e. short_none (get (empty {X = List Numbered}) list) cs (get-empty (List Numbered) list) e));
+}
+room log (suc n) h list = record {
+  bytes = bytes_in_limit log n;
+  ran = omega (arith, ran_in_limit log n, short_list (get (after_calls log n).objects.lists list) ((short_lists log n).listed list));
+}
+
+-- the state that a call of a log meets has room for the calls of each live list
+pub log_has_room : (bytes : List ℕ) (frames : List Frame) (n : ℕ) → IsLog bytes frames → length bytes ≤ 67108864 → n ≤ length frames + 1
+    → (list : ℕ) → HasRoom (before_call (calls_of frames) n).memory (length (calls_of_list (before_call (calls_of frames) n).objects list))
+log_has_room bytes frames n log small h list = room (calls_of frames) n (omega (arith, h, few_calls bytes frames log small)) list

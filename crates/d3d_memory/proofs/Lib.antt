@@ -8,3 +8,4 @@ pub mod Shows
 pub mod Bounded
 pub mod Stores
 pub mod Short
+mod Lengths

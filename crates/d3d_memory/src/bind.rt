@@ -1,6 +1,5 @@
 ghost use Rattle.std.specs.Prelude.{◌≡◌, ◌<◌, length, IfOk, OnOk};
 ghost use Rattle.shader_slots.specs.Bound.{with_write};
-ghost use Rattle.d3d_model.specs.D3dState.{bindings_of};
 ghost use Rattle.d3d_state.specs.Meaning.{objects_of};
 ghost use Rattle.d3d_memory.specs.Limits.{InLimits};
 ghost use Rattle.d3d_memory.specs.Shown.{constant_words, part_one, srv_words, uav_around, uav_words, with_constants, with_reads, with_writes};
@@ -9,6 +8,7 @@ ghost use Rattle.dx_types.specs.declared.limits.TheConstants.{CONSTANT_SLOTS, SR
 use crate::Memory;
 use crate::shown::{constant_shown, shown_part, srv_shown, uav_shown};
 use d3d_state::Objects;
+use d3d_views::Bindings;
 use dx_types::ResRange;
 use shader_model::Declared;
 use shader_slots::{Slots, Whole};
@@ -19,16 +19,16 @@ pub(crate) fn bind_constants<'a>(
     slots: &mut Slots<'a>,
     memory: &'a Memory,
     objects: &Objects<'_>,
+    bindings: &Bindings,
     declared: &[Declared],
 )
     requires limit { InLimits memory.now }
     requires slots { length slots.old.words.constants ≡ CONSTANT_SLOTS }
-    ensures { let o = objects_of objects.now in
-        slots.new ≡ with_constants (constant_words o memory.now (bindings_of o 0) declared.now) slots.old }
+    ensures { slots.new ≡ with_constants (constant_words (objects_of objects.now) memory.now bindings.now declared.now) slots.old }
 {
-    objects.bindings(0).has_all_slots();
+    bindings.has_all_slots();
     'slots: for slot in 0..14 {
-        let part = shown_part(memory, constant_shown(objects, declared, slot));
+        let part = shown_part(memory, constant_shown(objects, bindings, declared, slot));
         slots.bind_constant(slot, part);
     }
 }
@@ -37,17 +37,16 @@ pub(crate) fn bind_constants<'a>(
 pub(crate) fn bind_reads<'a>(
     slots: &mut Slots<'a>,
     memory: &'a Memory,
-    objects: &Objects<'_>,
+    bindings: &Bindings,
     declared: &[Declared],
 )
     requires limit { InLimits memory.now }
     requires slots { length slots.old.words.reads ≡ SRV_SLOTS }
-    ensures { let o = objects_of objects.now in
-        slots.new ≡ with_reads (srv_words memory.now (bindings_of o 0) declared.now) slots.old }
+    ensures { slots.new ≡ with_reads (srv_words memory.now bindings.now declared.now) slots.old }
 {
-    objects.bindings(0).has_all_slots();
+    bindings.has_all_slots();
     'slots: for slot in 0..16 {
-        let part = shown_part(memory, srv_shown(objects, declared, slot));
+        let part = shown_part(memory, srv_shown(bindings, declared, slot));
         slots.bind_read(slot, part);
     }
 }
@@ -82,18 +81,18 @@ fn put(slots: &mut Slots<'_>, slot: usize, part: Option<Whole>)
 pub(crate) fn bind_writes(
     slots: &mut Slots<'_>,
     memory: &Memory,
-    objects: &Objects<'_>,
+    bindings: &Bindings,
     declared: &[Declared],
 ) -> Result<(), AllocError>
     requires limit { InLimits memory.now }
     requires slots { length slots.old.words.writes ≡ UAV_SLOTS }
     requires parts { length slots.old.around ≡ UAV_SLOTS }
-    ensures { let b = bindings_of (objects_of objects.now) 0 in
+    ensures { let b = bindings.now in
         OnOk result (slots.new ≡ with_writes (uav_words memory.now b declared.now) (uav_around b declared.now) slots.old) }
 {
-    objects.bindings(0).has_all_slots();
+    bindings.has_all_slots();
     'slots: for slot in 0..8 {
-        let part = part_copy(memory, uav_shown(objects, declared, slot))?;
+        let part = part_copy(memory, uav_shown(bindings, declared, slot))?;
         put(slots, slot, part);
     }
     Ok(())

@@ -2,7 +2,6 @@ ghost use Rattle.std.specs.Prelude.{◌≡◌, ◌≤◌, ◌<◌, map, slice_in
 ghost use Rattle.shader_model.specs.Dispatch.{count_of, dispatched as run_by};
 ghost use Rattle.shader_model.specs.Shader.{program_of};
 ghost use Rattle.shader_slots.specs.Bound.{around_bound, words_bound};
-ghost use Rattle.d3d_model.specs.D3dState.{bindings_of};
 ghost use Rattle.d3d_model.specs.Memory.{dispatched, slots_seen, stored, uavs_shown};
 ghost use Rattle.d3d_state.specs.Meaning.{objects_of};
 ghost use Rattle.d3d_memory.specs.Limits.{InLimits};
@@ -14,6 +13,7 @@ use crate::Memory;
 use crate::bind::{bind_constants, bind_reads, bind_writes};
 use crate::shown::uav_shown;
 use d3d_state::Objects;
+use d3d_views::Bindings;
 use dx_types::ResRange;
 use dx_types::limits::UAV_SLOTS;
 use shader_eval::{Frame, run_groups};
@@ -32,21 +32,22 @@ struct Ran {
 fn run_shader(
     memory: &Memory,
     objects: &Objects<'_>,
+    bindings: &Bindings,
     shader: &Shader,
     groups: [u32; 3],
 ) -> Result<Ran, AllocError>
     requires { InLimits memory.now }
     ensures words { let o = objects_of objects.now in IfOk result (λ ran.
-        map words_bound ran.parts ≡ (run_by (program_of shader.now) groups (slots_seen o memory.now (bindings_of o 0) shader.now.declared)).writes) }
-    ensures around { IfOk result (λ ran. map around_bound ran.parts ≡ uav_around (bindings_of (objects_of objects.now) 0) shader.now.declared) }
+        map words_bound ran.parts ≡ (run_by (program_of shader.now) groups (slots_seen o memory.now bindings.now shader.now.declared)).writes) }
+    ensures around { IfOk result (λ ran. map around_bound ran.parts ≡ uav_around bindings.now shader.now.declared) }
     ensures count { IfOk result (λ ran. ran.count ≡ count_of (program_of shader.now) groups) }
     ensures limit { IfOk result (λ ran. ran.count ≤ MAX_INVOCATIONS) }
 {
     let mut frame = Frame::new(memory.alloc(), shader)?;
     let mut slots = Slots::new();
-    bind_constants(&mut slots, memory, objects, shader.declared());
-    bind_reads(&mut slots, memory, objects, shader.declared());
-    bind_writes(&mut slots, memory, objects, shader.declared())?;
+    bind_constants(&mut slots, memory, objects, bindings, shader.declared());
+    bind_reads(&mut slots, memory, bindings, shader.declared());
+    bind_writes(&mut slots, memory, bindings, shader.declared())?;
     let count = run_groups(shader, groups, &mut frame, &mut slots);
     Ok(Ran {
         parts: slots.into_writes(),
@@ -79,50 +80,51 @@ fn store_one(memory: &mut Memory, shown: Option<ResRange>, part: Option<Whole>)
 /// The parts that a dispatch wrote, each over the bytes that its slot shows, by rising slot.
 fn store(
     memory: &mut Memory,
-    objects: &Objects<'_>,
+    bindings: &Bindings,
     declared: &[Declared],
     mut parts: [Option<Whole>; UAV_SLOTS],
 )
-    requires { map around_bound parts ≡ uav_around (bindings_of (objects_of objects.now) 0) declared.now }
-    ensures { memory.new ≡ stored memory.old (uavs_shown (bindings_of (objects_of objects.now) 0) declared.now) (map words_bound parts) }
+    requires { map around_bound parts ≡ uav_around bindings.now declared.now }
+    ensures { memory.new ≡ stored memory.old (uavs_shown bindings.now declared.now) (map words_bound parts) }
 {
-    objects.bindings(0).has_all_slots();
+    bindings.has_all_slots();
     'slots: for slot in 0..8 {
         let part = take_part(&mut parts, slot);
-        store_one(memory, uav_shown(objects, declared, slot), part);
+        store_one(memory, uav_shown(bindings, declared, slot), part);
     }
 }
 
-/// A dispatch of a shader, of so many groups. Want of memory changes nothing.
+/// A dispatch of a shader where these bindings are set, of so many groups. Want of memory changes nothing.
 pub(crate) fn dispatch_shader(
     memory: &mut Memory,
     objects: &Objects<'_>,
+    bindings: &Bindings,
     shader: &Shader,
     groups: [u32; 3],
 ) -> Result<(), AllocError>
     requires { InLimits memory.old }
-    ensures ok { OnOk result (memory.new ≡ ran_by (program_of shader.now) (objects_of objects.now) groups memory.old) }
+    ensures ok { OnOk result (memory.new ≡ ran_by (program_of shader.now) (objects_of objects.now) bindings.now groups memory.old) }
     ensures err { OnErr result (memory.new ≡ memory.old) }
 {
-    let ran = run_shader(memory, objects, shader, groups)?;
-    store(memory, objects, shader.declared(), ran.parts);
+    let ran = run_shader(memory, objects, bindings, shader, groups)?;
+    store(memory, bindings, shader.declared(), ran.parts);
     memory.count_ran(ran.count);
     Ok(())
 }
 
-/// A dispatch of the shader that is set on the immediate context, of so many groups; where none is set nothing runs. Want
-/// of memory changes nothing.
+/// A dispatch of the shader that is set, of so many groups; where none is set nothing runs. Want of memory changes nothing.
 pub(crate) fn dispatch(
     memory: &mut Memory,
     objects: &Objects<'_>,
+    bindings: &Bindings,
     groups: [u32; 3],
 ) -> Result<(), AllocError>
     requires { InLimits memory.old }
-    ensures ok { let o = objects_of objects.now in OnOk result (memory.new ≡ dispatched o (bindings_of o 0) groups memory.old) }
+    ensures ok { OnOk result (memory.new ≡ dispatched (objects_of objects.now) bindings.now groups memory.old) }
     ensures err { OnErr result (memory.new ≡ memory.old) }
 {
-    match objects.shader_on(0) {
-        Some(shader) => dispatch_shader(memory, objects, shader, groups),
+    match objects.shader(bindings.shader()) {
+        Some(shader) => dispatch_shader(memory, objects, bindings, shader.tree(), groups),
         None => Ok(()),
     }
 }

@@ -1,9 +1,8 @@
-ghost use Rattle.std.specs.Prelude.{◌≡◌, ℕ, OnOk, OnErr};
+ghost use Rattle.std.specs.Prelude.{◌≡◌, ℕ, false, OnOk, OnErr};
 ghost use Rattle.call_log.specs.View.{call_view};
-ghost use Rattle.base_lemmas.specs.IdMap.{empty};
 ghost use Rattle.d3d_model.specs.Memory.{made, memory_after, run};
 ghost use Rattle.d3d_state.specs.Meaning.{objects_of};
-ghost use Rattle.d3d_memory.specs.Commands.{commanded, is_made};
+ghost use Rattle.d3d_memory.specs.Commands.{commanded, executes, is_made, seen};
 ghost use Rattle.d3d_memory.specs.Limits.{InLimits};
 
 use crate::Memory;
@@ -11,6 +10,7 @@ use crate::dispatch::dispatch;
 use call_log::Call;
 use d3d_model::codes::{BUFFER_CLASS, MAP_DISCARD};
 use d3d_state::Objects;
+use d3d_views::Bindings;
 use std::alloc::AllocError;
 
 /// What a call of the device does to the memory.
@@ -40,16 +40,21 @@ fn make(memory: &mut Memory, call: &Call<'_>) -> Result<(), AllocError>
 }
 
 /// What a call does, of the kinds that a predicate may skip, where it isn't skipped.
-fn command(memory: &mut Memory, objects: &Objects<'_>, call: &Call<'_>) -> Result<(), AllocError>
+fn command(
+    memory: &mut Memory,
+    objects: &Objects<'_>,
+    bindings: &Bindings,
+    call: &Call<'_>,
+) -> Result<(), AllocError>
     requires { InLimits memory.old }
-    ensures ok { OnOk result (memory.new ≡ commanded (objects_of objects.now) memory.old (call_view call.now)) }
+    ensures ok { OnOk result (memory.new ≡ commanded (objects_of objects.now) bindings.now memory.old (call_view call.now)) }
     ensures err { OnErr result (memory.new ≡ memory.old) }
 {
     match call {
-        Call::Dispatch { x, y, z } => return dispatch(memory, objects, [*x, *y, *z]),
+        Call::Dispatch { x, y, z } => return dispatch(memory, objects, bindings, [*x, *y, *z]),
         Call::DispatchIndirect { res, offset } => {
             let groups = memory.counts_at(*res, *offset);
-            return dispatch(memory, objects, groups);
+            return dispatch(memory, objects, bindings, groups);
         }
         Call::CopyRegion {
             target,
@@ -72,10 +77,16 @@ fn command(memory: &mut Memory, objects: &Objects<'_>, call: &Call<'_>) -> Resul
     Ok(())
 }
 
-/// What a call that may stand in a command list does, played on the immediate context.
-fn run(memory: &mut Memory, objects: &Objects<'_>, call: &Call<'_>) -> Result<(), AllocError>
+/// What a call that may stand in a command list does, played on the immediate context where these bindings are set. Want of
+/// memory changes nothing.
+pub fn run(
+    memory: &mut Memory,
+    objects: &Objects<'_>,
+    bindings: &Bindings,
+    call: &Call<'_>,
+) -> Result<(), AllocError>
     requires { InLimits memory.old }
-    ensures ok { OnOk result (memory.new ≡ run (objects_of objects.now) memory.old (call_view call.now)) }
+    ensures ok { OnOk result (memory.new ≡ run (seen (objects_of objects.now) bindings.now) memory.old (call_view call.now)) }
     ensures err { OnErr result (memory.new ≡ memory.old) }
 {
     match call {
@@ -95,10 +106,10 @@ fn run(memory: &mut Memory, objects: &Objects<'_>, call: &Call<'_>) -> Result<()
             Ok(())
         }
         _ => {
-            if memory.is_skipped(objects.bindings(0).predicate()) {
+            if memory.is_skipped(bindings.predicate()) {
                 return Ok(());
             }
-            command(memory, objects, call)
+            command(memory, objects, bindings, call)
         }
     }
 }
@@ -113,7 +124,7 @@ fn is_made(call: &Call<'_>) -> bool
     )
 }
 
-/// What an accepted call on a context does to the memory, with the objects that it meets, where no list is live. Want of memory
+/// What an accepted call on a context does to the memory, with the objects that it meets, if it executes no list. Want of memory
 /// changes nothing.
 pub fn accept(
     memory: &mut Memory,
@@ -122,13 +133,14 @@ pub fn accept(
     call: &Call<'_>,
 ) -> Result<(), AllocError>
     requires limit { InLimits memory.old }
-    ensures ok { (objects_of objects.now).lists ≡ empty → (n : ℕ) → OnOk result (memory.new ≡ memory_after n (objects_of objects.now) memory.old context (call_view call.now)) }
+    ensures ok { executes (call_view call.now) ≡ false
+        → (n : ℕ) → OnOk result (memory.new ≡ memory_after n (objects_of objects.now) memory.old context (call_view call.now)) }
     ensures err { OnErr result (memory.new ≡ memory.old) }
 {
     if is_made(call) {
         make(memory, call)
     } else if context == 0 {
-        run(memory, objects, call)
+        run(memory, objects, objects.bindings(0), call)
     } else {
         Ok(())
     }

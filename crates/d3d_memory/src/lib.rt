@@ -14,6 +14,6 @@ mod regions;
 mod shown;
 
 pub use answers::answer;
-pub use effects::accept;
+pub use effects::{accept, run};
 pub use laws::logs_stay_in_limits;
 pub use memory::Memory;

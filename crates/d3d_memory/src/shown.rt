@@ -1,7 +1,6 @@
 ghost use Rattle.std.specs.Prelude.{◌≡◌, ◌+◌, ◌%◌, ◌<◌, ◌≤◌, length, slice_index_or, None};
 ghost use Rattle.std.specs.List.{find};
 ghost use Rattle.base_lemmas.specs.ByteWords.{words_of};
-ghost use Rattle.d3d_model.specs.D3dState.{bindings_of};
 ghost use Rattle.d3d_model.specs.Memory.{constant_shown, constants_shown, is_declared, read, srvs_shown, uavs_shown, view_shown};
 ghost use Rattle.d3d_model.specs.Regions.{slice, words_of as bytes_as_words};
 ghost use Rattle.d3d_model.specs.Shader.{declared_unit, fits_slot};
@@ -14,7 +13,7 @@ ghost use Rattle.dx_types.specs.declared.limits.TheConstants.{CONSTANT_SLOTS, MA
 use crate::Memory;
 use crate::regions::within;
 use d3d_state::Objects;
-use d3d_views::{BoundView, view_range};
+use d3d_views::{Bindings, BoundView, view_range};
 use dx_types::{Form, ResRange, ViewShape};
 use shader_model::Declared;
 
@@ -86,44 +85,36 @@ fn view_shown(declared: Option<Declared>, set: Option<BoundView>) -> Option<ResR
 /// What a constant slot, from 0 to 13, shows to a shader with these declarations.
 pub(crate) fn constant_shown(
     objects: &Objects<'_>,
+    bindings: &Bindings,
     declared: &[Declared],
     slot: usize,
 ) -> Option<ResRange>
     requires { slot < CONSTANT_SLOTS }
-    ensures { let o = objects_of objects.now in
-        result ≡ slice_index_or (constants_shown o (bindings_of o 0) declared.now) slot None }
+    ensures { result ≡ slice_index_or (constants_shown (objects_of objects.now) bindings.now declared.now) slot None }
 {
-    objects.bindings(0).has_all_slots();
+    bindings.has_all_slots();
     let d = declared_slot(declared, CONSTANT, slot);
-    cut(objects, d, objects.bindings(0).constant(slot))
+    cut(objects, d, bindings.constant(slot))
 }
 
 /// What a shader resource slot, from 0 to 15, shows to a shader with these declarations.
-pub(crate) fn srv_shown(
-    objects: &Objects<'_>,
-    declared: &[Declared],
-    slot: usize,
-) -> Option<ResRange>
+pub(crate) fn srv_shown(bindings: &Bindings, declared: &[Declared], slot: usize) -> Option<ResRange>
     requires { slot < SRV_SLOTS }
-    ensures { result ≡ slice_index_or (srvs_shown (bindings_of (objects_of objects.now) 0) declared.now) slot None }
+    ensures { result ≡ slice_index_or (srvs_shown bindings.now declared.now) slot None }
 {
-    objects.bindings(0).has_all_slots();
+    bindings.has_all_slots();
     let d = declared_slot(declared, RESOURCE, slot);
-    view_shown(d, objects.bindings(0).srv(slot))
+    view_shown(d, bindings.srv(slot))
 }
 
 /// What an unordered access slot, from 0 to 7, shows to a shader with these declarations.
-pub(crate) fn uav_shown(
-    objects: &Objects<'_>,
-    declared: &[Declared],
-    slot: usize,
-) -> Option<ResRange>
+pub(crate) fn uav_shown(bindings: &Bindings, declared: &[Declared], slot: usize) -> Option<ResRange>
     requires { slot < UAV_SLOTS }
-    ensures { result ≡ slice_index_or (uavs_shown (bindings_of (objects_of objects.now) 0) declared.now) slot None }
+    ensures { result ≡ slice_index_or (uavs_shown bindings.now declared.now) slot None }
 {
-    objects.bindings(0).has_all_slots();
+    bindings.has_all_slots();
     let d = declared_slot(declared, UNORDERED, slot);
-    view_shown(d, objects.bindings(0).uav(slot))
+    view_shown(d, bindings.uav(slot))
 }
 
 // Whole words from a place of some bytes on, as far as there are.

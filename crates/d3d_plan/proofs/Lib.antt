@@ -1,4 +1,7 @@
-pub mod Tables
+pub mod Pieces
+mod Frozen
+pub mod Moves
+pub mod Keeping
 pub mod Records
 pub mod Steps
 pub mod Logs

@@ -1,8 +1,8 @@
 -- One more call of a log.
 use Rattle.std.proofs.Common.{◌≡◌, ℕ, suc, ◌+◌, List, [], ◌∷◌, ◌++◌, Option, Some, sym, ap, subst, add-one}
 use Rattle.call_log.specs.Call.{Issued}
-use Rattle.d3d_model.specs.InOrder.{State, after_call, after_calls, call_at, unless_refused, verdict_in}
-use Rattle.d3d_plan.specs.Planned.{Planned, place_behind, plan_of, planned_by}
+use Rattle.d3d_model.specs.InOrder.{after_call, after_calls, call_at, unless_refused, verdict_in}
+use Rattle.d3d_plan.specs.Planned.{place_behind, plan_of, planned_by}
 
 pub state_next : (log : List Issued) (i : ℕ) (x : Issued) → call_at log (i + 1) ≡ Some x
     → after_calls log (i + 1) ≡ unless_refused (i + 1) (after_calls log i) x (verdict_in (after_calls log i) x)

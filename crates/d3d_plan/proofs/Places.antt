@@ -1,5 +1,5 @@
 -- Where records begin, by the calls and by the records.
-use Rattle.std.proofs.Common.{◌≡◌, ℕ, zero, suc, ◌+◌, ◌<◌, ◌^◌, List, [], ◌∷◌, ◌++◌, length, take, map, sum_by, get_or, Option, Some, refl, sym, ap, subst, ◌∙◌, arith, add-one, length-append}
+use Rattle.std.proofs.Common.{◌≡◌, ℕ, zero, suc, ◌+◌, ◌<◌, List, [], ◌∷◌, ◌++◌, length, take, sum_by, get_or, Some, sym, ap, subst, ◌∙◌, arith, add-one, length-append}
 use Rattle.std.specs.Prelude.{slice_get}
 use Rattle.std.specs.List.{flat_map}
 use Rattle.std.proofs.lemmas.List.Sums.{sum_by-append, sum_by-cons}
@@ -7,7 +7,7 @@ use Rattle.std.proofs.lemmas.Grind.{flat_map-append}
 use Rattle.call_log.specs.Call.{Issued}
 use Rattle.call_log.specs.Body.{call_of}
 use Rattle.call_log.specs.Grammar.{Frame, IsFrame, AreBytes, calls_of, frame_no, issued, spell, start_behind}
-use Rattle.call_log.specs.Put.{body_length, body_of_call, frame_of}
+use Rattle.call_log.specs.Put.{body_length}
 use Rattle.call_log.proofs.FrameBack.{frame_of-call_of}
 use Rattle.call_log.proofs.ReadBack.{length-body_of_call}
 use Rattle.d3d_plan.specs.Planned.{place_behind, record_length}

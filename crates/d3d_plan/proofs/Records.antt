@@ -1,5 +1,5 @@
 -- The records of a log, by number.
-use Rattle.std.proofs.Common.{◌≡◌, ℕ, zero, suc, ◌+◌, ◌≤◌, ◌<◌, List, [], ◌∷◌, length, Option, Some, None, refl, sym, arith, add-one}
+use Rattle.std.proofs.Common.{◌≡◌, ℕ, zero, suc, ◌+◌, ◌≤◌, ◌<◌, List, [], ◌∷◌, length, Some, None, arith, add-one}
 use Rattle.std.specs.Prelude.{slice_get}
 use Rattle.call_log.specs.Grammar.{Frame, frame_no}
 

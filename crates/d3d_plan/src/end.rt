@@ -9,8 +9,6 @@ use std::alloc::AllocError;
 pub enum PlanEnd {
     /// Call n is the first draw; draws are not played.
     Unsupported { n: CallNo, kind: u16 },
-    /// Call n is the first that is not built yet: a deferred context would record it.
-    NotBuilt { n: CallNo, kind: u16 },
     NoMemory,
 }
 

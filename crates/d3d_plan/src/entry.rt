@@ -1,3 +1,4 @@
+use crate::tables::Piece;
 use d3d_state::LiveShader;
 use dx_types::{CallNo, Refusal};
 
@@ -8,14 +9,13 @@ pub(crate) struct Words {
     pub(crate) len: u32,
 }
 
-/// What is planned of a call. `shader` is the shader that it creates, if it creates one. Its ranges are those of the plan from
-/// `start` to just before `end`.
+/// What is planned of a call. `shader` is the shader that it creates, if it creates one. `piece` says which ranges of the plan it
+/// binds, and which calls of lists are those of the list that it finishes or executes.
 #[derive(Drop)]
 pub(crate) struct Entry {
     pub(crate) verdict: Option<Refusal>,
     pub(crate) last_use: Option<CallNo>,
     pub(crate) words: Option<Words>,
     pub(crate) shader: Option<LiveShader>,
-    pub(crate) start: u32,
-    pub(crate) end: u32,
+    pub(crate) piece: Piece,
 }

@@ -3,10 +3,12 @@
 
 mod end;
 mod entry;
+mod kept;
 mod make;
 mod plan;
 mod scan;
 mod step;
+mod tables;
 
 pub use end::PlanEnd;
 pub use make::make_plan;

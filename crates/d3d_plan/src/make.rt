@@ -5,26 +5,28 @@ ghost use Rattle.call_log.specs.Put.{body_length};
 ghost use Rattle.d3d_plan.specs.Ends.{EndsAt, IsPlayable};
 ghost use Rattle.d3d_plan.specs.Planned.{plan_of};
 
-use crate::scan::unplanned;
+use crate::kept::Kept;
+use crate::scan::first_draw;
 use crate::step::Planner;
+use crate::tables::Tables;
 use crate::{Plan, PlanEnd};
 use call_log::Log;
 use std::alloc::{AllocError, Global};
 
-/// The plan of a log. It costs a logarithm a call, and memory in proportion to the calls.
+/// The plan of a log. It costs a logarithm a call and a range that it binds; a list that is finished costs what is kept of it.
 pub fn make_plan(alloc: Global, log: &Log<'_>) -> Result<Plan, PlanEnd>
     ensures planned { IfOk result (λ p. p ≡ plan_of (calls_of log.now.frames) (length log.now.frames)) }
     ensures playable { OnOk result (IsPlayable log.now.frames) }
     ensures ends { IfErr result (λ e. EndsAt log.now.frames e) }
 {
-    if let Some(end) = unplanned(log) {
-        return Err(end);
+    if let Some((n, kind)) = first_draw(log) {
+        return Err(PlanEnd::Unsupported { n, kind });
     }
     let plan = plan_calls(alloc, log)?;
     Ok(plan)
 }
 
-/// The plan of a log without draws, all of whose calls are built.
+/// The plan of a log without draws.
 fn plan_calls(alloc: Global, log: &Log<'_>) -> Result<Plan, AllocError>
     requires { IsPlayable log.now.frames }
     ensures { IfOk result (λ p. p ≡ plan_of (calls_of log.now.frames) (length log.now.frames)) }
@@ -39,11 +41,23 @@ fn plan_calls(alloc: Global, log: &Log<'_>) -> Result<Plan, AllocError>
     }
     let Planner {
         entries,
-        ranges,
+        kept,
         objects: _,
-        uses: _,
     } = planner;
-    Ok(Plan::new(entries, ranges))
+    Ok(Plan::new(entries, tables_of(kept)))
+}
+
+fn tables_of(kept: Kept) -> Tables
+    ensures { result ≡ kept.tables }
+{
+    let Kept {
+        tables,
+        alloc: _,
+        uses: _,
+        opened: _,
+        lists: _,
+    } = kept;
+    tables
 }
 
 // A record's body is as long as its call says.

@@ -1,11 +1,13 @@
-ghost use Rattle.std.specs.Prelude.{◌&&◌, nat_le, ◌≡◌, ◌-◌, ◌≤◌, List, [], length, Some, slice_get};
+ghost use Rattle.std.specs.Prelude.{◌&&◌, nat_le, ◌≡◌, ◌-◌, ◌≤◌, List, length, Some, slice_get};
 ghost use Rattle.std.specs.List.{All};
-ghost use Rattle.d3d_plan.specs.Planned.{Planned};
-ghost use Rattle.d3d_plan.specs.Shown.{IsWithin, shown, span_of};
+ghost use Rattle.d3d_plan.specs.Planned.{Planned, part_of};
+ghost use Rattle.d3d_plan.specs.Shown.{IsWithinOf, shown, span_of};
 ghost use Rattle.std.specs.Option.{option_copied, option_map};
 ghost use Rattle.d3d_plan.specs.Verdicts.{refusal_of};
 
 use crate::entry::{Entry, Words};
+use crate::tables::Tables;
+use d3d_effects::part;
 use d3d_state::LiveShader;
 use dx_types::{CallNo, Refusal, ResRange, Span};
 use std::marker::Model;
@@ -30,29 +32,29 @@ fn span_of(words: Words) -> Span
 #[derive(Drop)]
 pub struct Plan {
     entries: Vec<Entry>,
-    ranges: Vec<ResRange>,
+    tables: Tables,
 }
 
 impl Model for Plan {
     ghost use Rattle.std.specs.Prelude.{List};
     ghost use Rattle.std.specs.List.{All};
     ghost use Rattle.d3d_plan.specs.Planned.{Planned};
-    ghost use Rattle.d3d_plan.specs.Shown.{IsWithin, shown};
+    ghost use Rattle.d3d_plan.specs.Shown.{IsWithinOf, shown};
 
     ghost Value = { List Planned };
 
-    ghost view = { λ p. shown p.ranges.items p.entries.items };
+    ghost view = { λ p. shown p.tables p.entries.items };
 
-    ghost invariant = { λ p. All (IsWithin p.ranges.items) p.entries.items };
+    ghost invariant = { λ p. All (IsWithinOf p.tables) p.entries.items };
 }
 
 impl Plan {
     /// The plan that these tables show.
-    pub(crate) fn new(entries: Vec<Entry>, ranges: Vec<ResRange>) -> Plan
-        requires { All (IsWithin ranges.items) entries.items }
-        ensures { result ≡ shown ranges.items entries.items }
+    pub(crate) fn new(entries: Vec<Entry>, tables: Tables) -> Plan
+        requires { All (IsWithinOf tables) entries.items }
+        ensures { result ≡ shown tables entries.items }
     {
-        Plan { entries, ranges }
+        Plan { entries, tables }
     }
 
     /// Whether the log has a call n: they are numbered from 1.
@@ -89,17 +91,33 @@ impl Plan {
         requires last { n ≤ length self.now }
         ensures { Some result.now ≡ option_map (λ (p : Planned). p.bound) (slice_get self.now (n - 1)) }
     {
-        let entry = &self.entries[(n - 1) as usize];
-        &self.ranges[entry.start as usize..entry.end as usize]
+        self.tables.ranges_of(self.entries[(n - 1) as usize].piece)
     }
 
-    /// The calls of the command list that call n finishes or executes. No list can be made yet.
+    /// The ranges that call n binds by one call of the list that it executes, from 0; none past the last. Of a call that executes
+    /// no list those of item 0 are all.
+    pub fn bound_by(&self, n: CallNo, item: u32) -> &[ResRange]
+        requires first { 1 ≤ n }
+        requires last { n ≤ length self.now }
+        ensures { Some result.now ≡ option_map (λ (p : Planned). part_of p item) (slice_get self.now (n - 1)) }
+    {
+        let piece = self.entries[(n - 1) as usize].piece;
+        let bound = self.tables.ranges_of(piece);
+        let ends = self.tables.ends_of(piece);
+        if ends.is_empty() && item == 0 {
+            return bound;
+        }
+        part(bound, ends, item as usize)
+    }
+
+    /// The calls of the command list that call n finishes or executes, by their numbers in the log; none for other calls, and
+    /// where it is refused.
     pub fn segment(&self, n: CallNo) -> &[CallNo]
         requires first { 1 ≤ n }
         requires last { n ≤ length self.now }
-        ensures { result.now ≡ [] }
+        ensures { Some result.now ≡ option_map (λ (p : Planned). p.calls) (slice_get self.now (n - 1)) }
     {
-        &[]
+        self.tables.calls_of(self.entries[(n - 1) as usize].piece)
     }
 
     /// Where in the input the token words of the shader stand that call n creates; None for other calls, and where it is

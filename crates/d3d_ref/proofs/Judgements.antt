@@ -10,7 +10,7 @@ use Rattle.call_log.specs.Grammar.{Frame, frame_no, issued, calls_of}
 use Rattle.d3d_model.specs.D3dState.{Objects, Memory, Shader}
 use Rattle.d3d_model.specs.InOrder.{after_calls, before_call, call_at}
 use Rattle.d3d_model.specs.ReplyText.{replies_upto}
-use Rattle.d3d_checks.specs.Accepted.{is_unbuilt, is_draw}
+use Rattle.d3d_checks.specs.Accepted.{is_draw}
 use Rattle.d3d_plan.specs.Planned.{Planned, plan_of, shader_by, shader_unless, verdict_by}
 use Rattle.d3d_plan.proofs.Entries.{entry_of}
 use Rattle.d3d_plan.specs.Ends.{IsPlayable}
@@ -42,8 +42,7 @@ judged frames plan i refusal same h playable said =
     let is : refusal ≡ verdict_by (after_calls log i) (slice_get log i) =
     some_back refusal _ (said ∙ ap (λ (k : ℕ). option_map verdict_of (slice_get plan k)) place ∙ ap (λ (p : List Planned). option_map verdict_of (slice_get p i)) same ∙ ap (option_map verdict_of) (entry_of log (length frames) i h)) in
     subst (λ (n : ℕ). Judged log n refusal) (sym (add-one i)) (record {
-      built = λ c there. let f = framed frames i c there in ap is_unbuilt (sym f.same) ∙ playable.1 (suc i) f.frame f.found;
-      no_draw = λ c there. let f = framed frames i c there in ap (λ (d : Issued). is_draw d.call) (sym f.same) ∙ playable.0 (suc i) f.frame f.found;
+      no_draw = λ c there. let f = framed frames i c there in ap (λ (d : Issued). is_draw d.call) (sym f.same) ∙ playable (suc i) f.frame f.found;
       verdict = λ c there. is ∙ ap (verdict_by (after_calls log i)) there;
     })
 

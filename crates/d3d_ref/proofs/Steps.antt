@@ -1,9 +1,6 @@
 -- One call of a log: the state after it, and what is said of it.
-use Rattle.std.proofs.Common.{◌≡◌, ℕ, zero, suc, Bool, true, false, not, ◌&&◌, ◌||◌, List, [], ◌∷◌, ◌++◌, Option, Some, None, refl, sym, ap, ◌∙◌}
-use Rattle.std.specs.Prelude.{◌==◌, if◌then◌else◌}
-use Rattle.std.proofs.lemmas.Bool.{eqb-true}
+use Rattle.std.proofs.Common.{◌≡◌, ℕ, zero, suc, false, not, List, Option, Some, None, refl, sym, ap, ◌∙◌}
 use Rattle.dx_types.specs.declared.refusal.Refusal.{Refusal}
-use Rattle.dx_types.specs.declared.refusal.Refusal.TheVariants.{WrongContext, TooMuchMemory}
 use Rattle.dx_types.specs.declared.reply.Reply.{Reply}
 use Rattle.dx_types.specs.declared.reply.Reply.TheVariants as said
 use Rattle.call_log.specs.Call.{Issued}
@@ -11,14 +8,11 @@ use Rattle.d3d_model.specs.D3dState.{Objects, Memory}
 use Rattle.d3d_model.specs.Past.{Past}
 use Rattle.d3d_model.specs.Effect.{objects_after}
 use Rattle.d3d_model.specs.Memory.{memory_after}
-use Rattle.d3d_model.specs.Check.{first_failed}
-use Rattle.d3d_model.specs.Verdict.{verdict, call_checks, is_too_long, is_wrong_at, place_of}
+use Rattle.d3d_model.specs.Verdict.{verdict}
 use Rattle.d3d_model.specs.InOrder.{State, accepted, unless_refused, verdict_in, after_call, after_calls, before_call, call_at}
 use Rattle.d3d_model.specs.ReplyText.{none_pending, answer, answer_or_still, reply_unless, reply_to, reply_at}
 use Rattle.base_lemmas.proofs.Maps.{get-empty}
-use Rattle.d3d_checks.specs.Accepted.{Accepted, is_draw, is_unbuilt}
-use Rattle.d3d_checks.proofs.Passes.{on_immediate}
-use Rattle.d3d_effects.proofs.Unlisted.{stays_unlisted}
+use Rattle.d3d_checks.specs.Accepted.{Accepted, is_draw}
 use Rattle.d3d_memory.specs.Meeting.{met_by}
 use Rattle.d3d_ref.specs.Stands.{Stands}
 
@@ -30,7 +24,7 @@ state_stays log zero none = refl
 state_stays log (suc n) none = ap (after_call (suc n) (after_calls log n)) none
 
 stands_at : (o : Objects) (m : Memory) (s t : State) → t ≡ s → Stands o m s → Stands o m t
-stands_at o m s t e h = record { objects = h.objects ∙ ap (λ (r : State). r.objects) (sym e); memory = h.memory ∙ ap (λ (r : State). r.memory) (sym e); unlisted = h.unlisted }
+stands_at o m s t e h = record { objects = h.objects ∙ ap (λ (r : State). r.objects) (sym e); memory = h.memory ∙ ap (λ (r : State). r.memory) (sym e) }
 
 pub stands_none : (log : List Issued) (n : ℕ) (o : Objects) (m : Memory) → call_at log n ≡ None → Stands o m (before_call log n) → Stands o m (after_calls log n)
 stands_none log n o m none h = stands_at o m (before_call log n) (after_calls log n) (state_stays log n none) h
@@ -56,29 +50,21 @@ reply_refused log n i why there v =
 
 -- ---- an accepted call
 
-pub is_accepted : (s : State) (i : Issued) (o : Objects) (m : Memory) → Stands o m s → is_unbuilt i ≡ false → is_draw i.call ≡ false → None ≡ verdict_in s i → Accepted o i.call
-is_accepted s i o m h built no_draw v = record {
+pub is_accepted : (s : State) (i : Issued) (o : Objects) (m : Memory) → Stands o m s → is_draw i.call ≡ false → None ≡ verdict_in s i → Accepted o i.context i.call
+is_accepted s i o m h no_draw v = record {
   built = ap not no_draw;
-  unlisted = h.unlisted;
   past = s.past;
-  passes =
-      ap (λ (p : Objects). verdict p s.past (record { context = 0; call = i.call })) h.objects
-      ∙ ap (λ (x : ℕ). verdict s.objects s.past (record { context = x; call = i.call })) (sym (on_immediate s.objects s.past i built v))
-      ∙ sym v;
+  passes = ap (λ (p : Objects). verdict p s.past i) h.objects ∙ sym v;
 }
 
-pub stands_accepted : (log : List Issued) (n : ℕ) (i : Issued) (o o' : Objects) (m m' : Memory) → call_at log n ≡ Some i → is_unbuilt i ≡ false → is_draw i.call ≡ false → None ≡ verdict_in (before_call log n) i
-    → Stands o m (before_call log n) → o' ≡ objects_after n o 0 i.call → m' ≡ memory_after n o m 0 i.call → Stands o' m' (after_calls log n)
-stands_accepted log n i o o' m m' there built no_draw v h eo em =
+pub stands_accepted : (log : List Issued) (n : ℕ) (i : Issued) (o o' : Objects) (m m' : Memory) → call_at log n ≡ Some i → None ≡ verdict_in (before_call log n) i
+    → Stands o m (before_call log n) → o' ≡ objects_after n o i.context i.call → m' ≡ memory_after n o m i.context i.call → Stands o' m' (after_calls log n)
+stands_accepted log n i o o' m m' there v h eo em =
     let s = before_call log n in
-    let here = on_immediate s.objects s.past i built v in
     let after : after_calls log n ≡ accepted n s i.context i.call = step log n i there ∙ ap (unless_refused n s i) (sym v) in
     stands_at o' m' (accepted n s i.context i.call) (after_calls log n) after (record {
-      objects = eo ∙ ap (λ (p : Objects). objects_after n p 0 i.call) h.objects ∙ ap (λ (x : ℕ). objects_after n s.objects x i.call) (sym here);
-      memory =
-          em ∙ ap (λ (p : Objects). memory_after n p m 0 i.call) h.objects ∙ ap (λ (k : Memory). memory_after n s.objects k 0 i.call) h.memory
-          ∙ ap (λ (x : ℕ). memory_after n s.objects s.memory x i.call) (sym here);
-      unlisted = ap (λ (p : Objects). p.lists) eo ∙ stays_unlisted n o i.call (is_accepted s i o m h built no_draw v);
+      objects = eo ∙ ap (λ (p : Objects). objects_after n p i.context i.call) h.objects;
+      memory = em ∙ ap (λ (p : Objects). memory_after n p m i.context i.call) h.objects ∙ ap (λ (k : Memory). memory_after n s.objects k i.context i.call) h.memory;
     })
 
 pub reply_accepted : (log : List Issued) (n : ℕ) (i : Issued) (o : Objects) (m : Memory) (r : Option Reply) → call_at log n ≡ Some i → None ≡ verdict_in (before_call log n) i

@@ -12,9 +12,9 @@ use Rattle.call_log.specs.Grammar.{Frame}
 use Rattle.call_log.proofs.OneReading.{one_log, no_fault}
 use Rattle.log_text.proofs.Spelling.{no_bad_line}
 use Rattle.list_audit.proofs.OneReading.{no_bad_line as not_bad_audited}
-use Rattle.d3d_plan.specs.Ends.{Never, IsFirst, is_draw_record, is_unbuilt_record}
+use Rattle.d3d_plan.specs.Ends.{Never, IsFirst, is_draw_record}
 use Rattle.core_machine.specs.Unplayed.{is_unplayed_record}
-use Rattle.player.specs.Outcome.{Answers, IsPlayedLog, IsRunOf, FirstDraw, FirstUnbuilt, RunRefuses, Refuses, WasLeft, Outcome, OutcomeOf, Accepted, IsGood}
+use Rattle.player.specs.Outcome.{Answers, IsPlayedLog, FirstDraw, FirstUnbuilt, RunRefuses, Refuses, WasLeft, Outcome, OutcomeOf, Accepted, IsGood}
 
 told_is : (left : Option (List ℕ)) (all bytes : List ℕ) → left ≡ Some all → WasLeft left bytes → bytes ≡ all
 told_is left all bytes e h = subst (λ (o : Option (List ℕ)). WasLeft o bytes) e h
@@ -29,26 +29,26 @@ not_missing test frames n kind never first =
     let e = sym (never n at.0 at.1) ∙ at.2 in
     absurd cc
 
-no_first_draw : (unbuilt : Frame → Bool) (bytes : List ℕ) (frames : List Frame) (n : ℕ) → IsPlayedLog unbuilt bytes frames → FirstDraw bytes n → ⊥
-no_first_draw unbuilt bytes frames n played draw =
+no_first_draw : (bytes : List ℕ) (frames : List Frame) (n : ℕ) → IsPlayedLog bytes frames → FirstDraw bytes n → ⊥
+no_first_draw bytes frames n played draw =
     let same = one_log bytes draw.frames frames draw.log played.log in
     not_missing is_draw_record frames n draw.kind played.no_draw (subst (λ (fs : List Frame). IsFirst is_draw_record fs n draw.kind) same draw.first)
 
-no_first_unbuilt : (unbuilt : Frame → Bool) (bytes : List ℕ) (frames : List Frame) (n kind : ℕ) → IsPlayedLog unbuilt bytes frames → FirstUnbuilt unbuilt bytes n kind → ⊥
-no_first_unbuilt unbuilt bytes frames n kind played first =
+no_first_unbuilt : (bytes : List ℕ) (frames : List Frame) (n kind : ℕ) → IsPlayedLog bytes frames → Never is_unplayed_record frames → FirstUnbuilt bytes n kind → ⊥
+no_first_unbuilt bytes frames n kind played built first =
     let same = one_log bytes first.frames frames first.log played.log in
-    not_missing unbuilt frames n kind played.built (subst (λ (fs : List Frame). IsFirst unbuilt fs n kind) same first.first)
+    not_missing is_unplayed_record frames n kind built (subst (λ (fs : List Frame). IsFirst is_unplayed_record fs n kind) same first.first)
 
-run_not_refused : (unbuilt : Frame → Bool) (bytes out : List ℕ) (s : Status) → IsRunOf unbuilt bytes out → RunRefuses unbuilt bytes s → ⊥
-run_not_refused unbuilt bytes out (BadLog fault) a r = no_fault bytes a.0 fault a.1.log r
-run_not_refused unbuilt bytes out (Unsupported n) a r = no_first_draw unbuilt bytes a.0 n a.1 r
-run_not_refused unbuilt bytes out (NotBuilt n kind) a r = no_first_unbuilt unbuilt bytes a.0 n kind a.1 r
-run_not_refused unbuilt bytes out _ a r = absurd r
+run_not_refused : (bytes : List ℕ) (frames : List Frame) (s : Status) → IsPlayedLog bytes frames → RunRefuses bytes s → ⊥
+run_not_refused bytes frames (BadLog fault) played r = no_fault bytes frames fault played.log r
+run_not_refused bytes frames (Unsupported n) played r = no_first_draw bytes frames n played r
+run_not_refused bytes frames _ played r = absurd r
 
 -- bytes for which a command has an output aren't refused
 refused_not : (c : Command) (bytes out : List ℕ) (s : Status) → Answers c bytes out → Refuses c bytes s → ⊥
-refused_not commands.Replay bytes out s a r = run_not_refused is_unplayed_record bytes out s a r
-refused_not commands.Ref bytes out s a r = run_not_refused is_unbuilt_record bytes out s a r
+refused_not commands.Replay bytes out (NotBuilt n kind) a r = no_first_unbuilt bytes a.0 n kind a.1 a.2 r
+refused_not commands.Replay bytes out s a r = run_not_refused bytes a.0 s a.1 r
+refused_not commands.Ref bytes out s a r = run_not_refused bytes a.0 s a.1 r
 refused_not commands.List bytes out (BadLog fault) a r = no_fault bytes a.0 fault a.1 r
 refused_not commands.List bytes out _ a r = absurd r
 refused_not commands.Asm bytes out (BadText line) a r = no_bad_line bytes out line a r

@@ -1,15 +1,14 @@
--- The generated log has no draw and no call on a deferred context, so it is planned.
+-- The generated log has no draw, so it is planned.
 use Rattle.std.proofs.Common.{◌≡◌, ℕ, zero, suc, Bool, false, List, [], ◌∷◌, Some, refl, sym, ap, ◌∙◌}
 use Rattle.std.specs.Prelude.{map}
 use Rattle.std.specs.List.{AllByRecursion}
-use Rattle.base_lemmas.proofs.Lists.{all_true}
 use Rattle.call_log.specs.Call.{Call, Issued}
 use Rattle.call_log.specs.Grammar.{Frame, issued}
 use Rattle.call_log.specs.Put.{frame_of}
 use Rattle.call_log.proofs.ReadBack.{call_back}
-use Rattle.d3d_checks.specs.Accepted.{is_draw, is_unbuilt}
-use Rattle.d3d_plan.specs.declared.end.PlanEnd.TheVariants.{Unsupported, NotBuilt}
-use Rattle.d3d_plan.specs.Ends.{EndsAt, IsFirst, IsPlayable, Never, is_draw_record, is_unbuilt_record}
+use Rattle.d3d_checks.specs.Accepted.{is_draw}
+use Rattle.d3d_plan.specs.declared.end.PlanEnd.TheVariants.{Unsupported}
+use Rattle.d3d_plan.specs.Ends.{EndsAt, IsFirst, IsPlayable, Never, is_draw_record}
 use Rattle.histogram_log.specs.Histogram.{histogram}
 use Rattle.histogram_log.specs.Logged.{frames, IsSpelt, AreSpelt}
 use Rattle.histogram_log.proofs.Calls.{all_calls, all_round, histogram_spelt}
@@ -42,13 +41,9 @@ no_draws n =
     (all_round NoDraw (λ i. refl) (λ i. refl) refl (refl, (refl, tt))) (refl, (refl, tt)) n
 
 pub playable : (n : ℕ) → IsPlayable (frames (histogram n))
-playable n = (
-  never is_draw_record (frames (histogram n))
-      (all_records (λ (i : Issued). is_draw i.call) (histogram n) (histogram_spelt n) (no_draws n)),
-  never is_unbuilt_record (frames (histogram n))
-      (all_records is_unbuilt (histogram n) (histogram_spelt n)
-      (all_true (λ (c : Call). is_unbuilt (record { context = 0; call = c }) ≡ false) (λ c. refl) (histogram n))),
-)
+playable n =
+    never is_draw_record (frames (histogram n))
+    (all_records (λ (i : Issued). is_draw i.call) (histogram n) (histogram_spelt n) (no_draws n))
 
 not_first : (test : Frame → Bool) (fs : List Frame) (n kind : ℕ) → Never test fs → IsFirst test fs n kind → ⊥
 not_first test fs n kind none first =
@@ -58,7 +53,4 @@ not_first test fs n kind none first =
 
 -- what can be planned ends for want of memory alone
 pub not_unsupported : (fs : List Frame) (n kind : ℕ) → IsPlayable fs → EndsAt fs (Unsupported n kind) → ⊥
-not_unsupported fs n kind h ends = not_first is_draw_record fs n kind h.0 ends
-
-pub not_unbuilt : (fs : List Frame) (n kind : ℕ) → IsPlayable fs → EndsAt fs (NotBuilt n kind) → ⊥
-not_unbuilt fs n kind h ends = not_first is_unbuilt_record fs n kind h.1 ends.1
+not_unsupported fs n kind h ends = not_first is_draw_record fs n kind h ends

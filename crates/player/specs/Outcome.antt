@@ -1,5 +1,5 @@
 -- What each status says of the input and the output.
-use Rattle.std.specs.Prelude.{◌≡◌, ℕ, ◌<◌, ◌≤◌, Bool, List, [], length, Option, Some, None, IfSome, ◌⊎◌, ⊤}
+use Rattle.std.specs.Prelude.{◌≡◌, ℕ, ◌<◌, ◌≤◌, List, [], length, Option, Some, None, IfSome, ◌⊎◌, ⊤}
 use Rattle.std.specs.Option.{option_map}
 use Rattle.dx_io.specs.Told.{Appends, AppendsFront}
 use Rattle.player.specs.declared.command.Command.{Command}
@@ -20,26 +20,22 @@ use Rattle.list_audit.specs.AuditText.{IsFirstBad as IsFirstBadAudited}
 use Rattle.list_audit.specs.Reports.{IsReport}
 use Rattle.player.specs.AuditLines.{report_text}
 use Rattle.d3d_model.specs.ReplyText.{text, none_pending}
-use Rattle.d3d_plan.specs.Ends.{Never, IsFirst, is_draw_record, is_unbuilt_record}
+use Rattle.d3d_plan.specs.Ends.{Never, IsFirst, is_draw_record}
 use Rattle.core_machine.specs.Unplayed.{is_unplayed_record}
 use Rattle.dx_types.specs.declared.limits.TheConstants.{MAX_INPUT}
 
 -- ---- what a command makes of its input
 
--- a log of these records, without a draw and without a call that is still to be built
-pub record IsPlayedLog (unbuilt : Frame → Bool) (bytes : List ℕ) (frames : List Frame) : Type 0 where
+-- a log of these records, without a draw
+pub record IsPlayedLog (bytes : List ℕ) (frames : List Frame) : Type 0 where
   pub log : IsLog bytes frames
   pub no_draw : Never is_draw_record frames
-  pub built : Never unbuilt frames
 
--- the text of a run of such a log
-abbrev pub IsRunOf : (Frame → Bool) → List ℕ → List ℕ → Type 0
-IsRunOf unbuilt bytes out = (frames : List Frame) × IsPlayedLog unbuilt bytes frames × (out ≡ text (calls_of frames) none_pending)
-
--- the whole output of a command for these bytes
+-- the whole output of a command for these bytes: of a run the text of its replies; `replay` doesn't play each call yet
 abbrev pub Answers : Command → List ℕ → List ℕ → Type 0
-Answers commands.Replay bytes out = IsRunOf is_unplayed_record bytes out
-Answers commands.Ref bytes out = IsRunOf is_unbuilt_record bytes out
+Answers commands.Replay bytes out =
+    (frames : List Frame) × IsPlayedLog bytes frames × Never is_unplayed_record frames × (out ≡ text (calls_of frames) none_pending)
+Answers commands.Ref bytes out = (frames : List Frame) × IsPlayedLog bytes frames × (out ≡ text (calls_of frames) none_pending)
 Answers commands.List bytes out = (frames : List Frame) × IsLog bytes frames × (out ≡ text_of frames)
 Answers commands.Asm bytes out = LogText bytes out
 Answers commands.Audit bytes out = (report : Report) × IsReport bytes report × (out ≡ report_text report)
@@ -56,23 +52,23 @@ pub record FirstDraw (bytes : List ℕ) (n : ℕ) : Type 0 where
   pub first : IsFirst is_draw_record frames n kind
 
 -- the first call that is still to be built, with its kind, in a log without draws
-pub record FirstUnbuilt (unbuilt : Frame → Bool) (bytes : List ℕ) (n kind : ℕ) : Type 0 where
+pub record FirstUnbuilt (bytes : List ℕ) (n kind : ℕ) : Type 0 where
   pub frames : List Frame
   pub log : IsLog bytes frames
   pub no_draw : Never is_draw_record frames
-  pub first : IsFirst unbuilt frames n kind
+  pub first : IsFirst is_unplayed_record frames n kind
 
 -- why a log is not run
-abbrev pub RunRefuses : (Frame → Bool) → List ℕ → Status → Type 0
-RunRefuses unbuilt bytes (BadLog fault) = IsFault bytes fault
-RunRefuses unbuilt bytes (Unsupported n) = FirstDraw bytes n
-RunRefuses unbuilt bytes (NotBuilt n kind) = FirstUnbuilt unbuilt bytes n kind
-RunRefuses unbuilt bytes _ = ⊥
+abbrev pub RunRefuses : List ℕ → Status → Type 0
+RunRefuses bytes (BadLog fault) = IsFault bytes fault
+RunRefuses bytes (Unsupported n) = FirstDraw bytes n
+RunRefuses bytes _ = ⊥
 
 -- why a command writes nothing for these bytes
 abbrev pub Refuses : Command → List ℕ → Status → Type 0
-Refuses commands.Replay bytes s = RunRefuses is_unplayed_record bytes s
-Refuses commands.Ref bytes s = RunRefuses is_unbuilt_record bytes s
+Refuses commands.Replay bytes (NotBuilt n kind) = FirstUnbuilt bytes n kind
+Refuses commands.Replay bytes s = RunRefuses bytes s
+Refuses commands.Ref bytes s = RunRefuses bytes s
 Refuses commands.List bytes (BadLog fault) = IsFault bytes fault
 Refuses commands.List bytes _ = ⊥
 Refuses commands.Asm bytes (BadText line) = IsFirstBad bytes line
@@ -178,7 +174,6 @@ IsNotBuilt frames n _ = ⊥
 abbrev pub UnplannedStatus : List Frame → Status → Type 0
 UnplannedStatus frames NoMemory = Unit
 UnplannedStatus frames (Unsupported n) = (kind : ℕ) × IsFirst is_draw_record frames n kind
-UnplannedStatus frames (NotBuilt n kind) = Never is_draw_record frames × IsFirst is_unplayed_record frames n kind
 UnplannedStatus frames _ = ⊥
 
 -- these bytes were written, or a front of them

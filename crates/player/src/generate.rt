@@ -86,9 +86,8 @@ fn last_sum(alloc: Global, rounds: u32, log: &Log<'_>) -> Result<u64, AllocError
             Ok(sum_of_words(read_back(&reply)))
         }
         Err(PlanEnd::NoMemory) => Err(AllocError),
-        // It has no draw, and no call on a deferred context.
+        // It has no draw.
         Err(PlanEnd::Unsupported { .. }) => unreachable!(),
-        Err(PlanEnd::NotBuilt { .. }) => unreachable!(),
     }
 }
 

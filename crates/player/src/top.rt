@@ -155,11 +155,6 @@ fn not_replayed(log: &Log<'_>, end: PlanEnd) -> Status
     match end {
         PlanEnd::NoMemory => Status::NoMemory,
         PlanEnd::Unsupported { n, .. } => Status::Unsupported { n },
-        PlanEnd::NotBuilt { .. } => match first_unbuilt(log) {
-            Some(n) => not_built(log, n),
-            // What is not planned is not played.
-            None => unreachable!(),
-        },
     }
 }
 
@@ -193,7 +188,6 @@ fn ref_log<K: Sink>(alloc: Global, log: &Log<'_>, out: &mut K) -> Status
     match reference(alloc, log) {
         Ok(replies) => say_all(alloc, &replies, out),
         Err(PlanEnd::Unsupported { n, .. }) => Status::Unsupported { n },
-        Err(PlanEnd::NotBuilt { n, kind }) => Status::NotBuilt { n, kind },
         Err(PlanEnd::NoMemory) => Status::NoMemory,
     }
 }

@@ -3,7 +3,7 @@
 use crate::refusals::{Row, play};
 use std::test::Fail;
 
-static ROWS: [Row; 11] = [
+static ROWS: [Row; 13] = [
     Row {
         shows: "update_copy_map",
         log: "\
@@ -342,6 +342,45 @@ static ROWS: [Row; 11] = [
          33 refused TooManyDynamic\n\
          49 refused TooMuchMemory\n\
          end 53\n\
+         ",
+    },
+    Row {
+        shows: "list_twice",
+        log: "\
+         0 buffer 1 8 2 2 0 0 -\n\
+         0 buffer 2 8 3 0 0 0 -\n\
+         1 map-write 1 0 0 11111111\n\
+         1 copy-region 2 0 1 0 4\n\
+         1 finish-list 1\n\
+         0 execute-list 1 0\n\
+         0 map-write 1 1 4 22222222\n\
+         0 copy-region 2 4 1 4 4\n\
+         0 map-read 2 0 0 8\n\
+         0 execute-list 1 0\n\
+         0 copy-region 2 0 1 0 8\n\
+         0 map-read 2 0 0 8\n\
+         ",
+        says: "\
+         9 bytes 1111111122222222\n\
+         12 bytes 1111111100000000\n\
+         end 12\n\
+         ",
+    },
+    Row {
+        shows: "cleared_context",
+        log: "\
+         0 shader 1 010000000600000001040000030000000100000001000000\n\
+         0 set-shader 1\n\
+         1 clear-state\n\
+         1 finish-list 1\n\
+         0 execute-list 1 1\n\
+         0 dispatch 1 1 1\n\
+         0 execute-list 1 0\n\
+         0 dispatch 1 1 1\n\
+         ",
+        says: "\
+         8 refused BadShader\n\
+         end 8\n\
          ",
     },
 ];

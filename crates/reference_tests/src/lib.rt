@@ -6,6 +6,8 @@ mod acts;
 #[cfg(test)]
 mod dispatches;
 #[cfg(test)]
+mod lists;
+#[cfg(test)]
 mod logs;
 #[cfg(test)]
 mod memory;

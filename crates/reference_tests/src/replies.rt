@@ -64,18 +64,11 @@ struct Unplanned {
     end: PlanEnd,
 }
 
-static UNPLANNED: [Unplanned; 2] = [
-    Unplanned {
-        shows: "a draw",
-        log: &["0 flush\n1 set-shader 0\n0 draw-64 -\n"],
-        end: PlanEnd::Unsupported { n: 3, kind: 64 },
-    },
-    Unplanned {
-        shows: "a call on a deferred context",
-        log: &["0 flush\n1 set-shader 0\n"],
-        end: PlanEnd::NotBuilt { n: 2, kind: 16 },
-    },
-];
+static UNPLANNED: [Unplanned; 1] = [Unplanned {
+    shows: "a draw",
+    log: &["0 flush\n1 set-shader 0\n0 draw-64 -\n"],
+    end: PlanEnd::Unsupported { n: 3, kind: 64 },
+}];
 
 #[test]
 fn logs_that_are_not_run(rt: HostRuntime) -> Result<(), Fail> {

@@ -1,4 +1,3 @@
-use Rattle.std.proofs.Common.{refl}
 use Rattle.d3d_checks.proofs.maps.use_refusal.Goals as goal
 
 pub returns-in-NoOverwrite : goal.returns-in-NoOverwrite

@@ -1,8 +1,5 @@
-use Rattle.std.proofs.Common.{ap, ◌∙◌}
 use Rattle.std.specs.Option.{option_to_list}
 use Rattle.std.proofs.lemmas.Result.{on_ok_weaker}
-use Rattle.d3d_model.specs.Binding.{Bindings, predicate_range}
-use Rattle.d3d_model.specs.D3dState.{bindings_of}
 use Rattle.d3d_state.specs.Meaning.{objects_of}
 use Rattle.d3d_effects.proofs.Slots.{all_bound}
 use Rattle.d3d_effects.proofs.dispatches.push_dispatch.Goals as goal
@@ -11,7 +8,7 @@ pub returns : goal.returns
 returns c =
     let o = objects_of c.args.objects.now in
     on_ok_weaker c.push_some.result
-    (λ pushed. all_bound o (bindings_of o 0) c.args.ranges.now.items c.push_constants.new.ranges.items c.push_srvs.new.ranges.items c.push_uavs.new.ranges.items c.push_some.new.ranges.items
+    (λ pushed. all_bound o c.args.bindings.now c.args.ranges.now.items c.push_constants.new.ranges.items c.push_srvs.new.ranges.items c.push_uavs.new.ranges.items c.push_some.new.ranges.items
     (option_to_list c.predicate_word.result) c.in_ok-push_constants.ensures c.in_ok-push_srvs.ensures c.in_ok-push_uavs.ensures
-    (c.predicate_word.ensures ∙ ap (λ (b : Bindings). predicate_range b.predicate) c.bindings.ensures) pushed)
+    c.predicate_word.ensures pushed)
     c.push_some.ensures

@@ -1,18 +1,15 @@
 use Rattle.std.proofs.Common.{◌≡◌, ◌<◌, List, ℕ, Option, length, ap, sym, ◌∙◌, arith}
 use Rattle.shader_slots.specs.Bound.{Around, around_bound, words_bound}
-use Rattle.d3d_model.specs.Binding.{Bindings}
-use Rattle.d3d_model.specs.D3dState.{bindings_of}
-use Rattle.d3d_state.specs.Meaning.{objects_of}
 use Rattle.d3d_memory.specs.Shown.{around_one, words_one, uav_around, uav_words, with_writes}
 use Rattle.d3d_memory.proofs.Shows.{next_write, upto, upto_all, length-uavs, length-around, uavs_at, around_at, part_words, part_around}
 use Rattle.d3d_memory.proofs.bind.bind_writes.Goals as goal
 
 pub slots-preserved : goal.slots-preserved
 slots-preserved c =
-    let b = bindings_of (objects_of c.args.objects.now) 0 in
+    let b = c.args.bindings.now in
     let m = c.args.memory.now in
     let ds = c.args.declared.now in
-    let slots : length b.uavs ≡ 8 = sym (ap (λ (x : Bindings). length x.uavs) c.bindings.ensures) ∙ c.has_all_slots.ensures.uavs in
+    let slots : length b.uavs ≡ 8 = c.has_all_slots.ensures.uavs in
     let long : length (uav_words m b ds) ≡ length b.uavs = length-uavs b ds m in
     let wide : length (uav_around b ds) ≡ length b.uavs = length-around b ds in
     let fits : c.slots.slot < length b.uavs = omega (arith, slots) in
@@ -24,10 +21,10 @@ slots-preserved c =
 
 pub returns : goal.returns
 returns c =
-    let b = bindings_of (objects_of c.args.objects.now) 0 in
+    let b = c.args.bindings.now in
     let m = c.args.memory.now in
     let ds = c.args.declared.now in
-    let slots : length b.uavs ≡ 8 = sym (ap (λ (x : Bindings). length x.uavs) c.bindings.ensures) ∙ c.has_all_slots.ensures.uavs in
+    let slots : length b.uavs ≡ 8 = c.has_all_slots.ensures.uavs in
     let long : length (uav_words m b ds) ≡ length b.uavs = length-uavs b ds m in
     let wide : length (uav_around b ds) ≡ length b.uavs = length-around b ds in
     c.slots.invariant

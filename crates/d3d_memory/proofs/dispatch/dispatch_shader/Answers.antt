@@ -3,7 +3,7 @@ use Rattle.shader_model.specs.declared.tree.Declared.{Declared}
 use Rattle.shader_model.specs.Dispatch.{dispatched}
 use Rattle.shader_model.specs.Shader.{program_of}
 use Rattle.shader_slots.specs.Bound.{words_bound}
-use Rattle.d3d_model.specs.D3dState.{Memory, bindings_of}
+use Rattle.d3d_model.specs.D3dState.{Memory}
 use Rattle.d3d_model.specs.Memory.{counted, slots_seen, stored, uavs_shown}
 use Rattle.d3d_state.specs.Meaning.{objects_of}
 use Rattle.d3d_memory.proofs.Bounded.{ran_stored}
@@ -11,7 +11,7 @@ use Rattle.d3d_memory.proofs.dispatch.dispatch_shader.Goals as goal
 
 pub count_ran-requires : goal.count_ran-requires
 count_ran-requires c =
-    let b = bindings_of (objects_of c.args.objects.now) 0 in
+    let b = c.args.bindings.now in
     omega (
       arith,
       c.requires.ran,
@@ -23,7 +23,7 @@ count_ran-requires c =
 pub returns-clause-ok : goal.returns-clause-ok
 returns-clause-ok c =
     let o = objects_of c.args.objects.now in
-    let b = bindings_of o 0 in
+    let b = c.args.bindings.now in
     let m = c.args.memory.now in
     let ds = c.args.shader.now.declared in
     let left = (dispatched (program_of c.args.shader.now) c.args.groups (slots_seen o m b ds)).writes in

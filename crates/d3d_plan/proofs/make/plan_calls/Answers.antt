@@ -19,13 +19,14 @@ calls-init c = record { stands = c.in_ok-planner.ensures.stands; shows = c.in_ok
 pub unreachable-requires : goal.unreachable-requires
 unreachable-requires c = omega (arith, past_all c.args.log.now.frames c.calls.i c.in_default.ensures.record, c.count-i-end.ensures.count)
 
-pub plan_call-requires-clause-built : goal.plan_call-requires-clause-built
-plan_call-requires-clause-built c =
-    rw c.call.ensures (c.requires.1 (c.calls.i + 1) (frame_view c.in-Some.item) (sym c.in-Some.ensures.record))
+pub plan_call-requires-clause-some_state : goal.plan_call-requires-clause-some_state
+plan_call-requires-clause-some_state c =
+    let log = calls_of c.args.log.now.frames in
+    (after_calls log c.calls.i, (record { log = log; count = c.calls.i; is = refl }, c.calls.invariant.stands))
 
 pub plan_call-requires-clause-no_draw : goal.plan_call-requires-clause-no_draw
 plan_call-requires-clause-no_draw c =
-    rw c.call.ensures (c.requires.0 (c.calls.i + 1) (frame_view c.in-Some.item) (sym c.in-Some.ensures.record))
+    rw c.call.ensures (c.requires (c.calls.i + 1) (frame_view c.in-Some.item) (sym c.in-Some.ensures.record))
 
 pub calls-preserved : goal.calls-preserved
 calls-preserved c =
@@ -39,9 +40,9 @@ calls-preserved c =
     let back : i + 1 - 1 ≡ i = omega arith in
     let at : c.in-Some.item.at ≡ place_behind log i = c.in-Some.ensures.at ∙ ap (start_behind c.args.log.now.frames) back ∙ sym c.calls.invariant.place in
     record {
-      stands = subst (λ (t : State). Stands t new.objects new.uses) (sym (state_next log i x is)) (c.in_ok-plan_call.ensures.stands s c.calls.invariant.stands);
-      shows = subst (λ (p : List Planned). Shows new.entries.items new.ranges.items p) (sym (plan_next log i x is))
-          (subst (λ (n : ℕ). Shows new.entries.items new.ranges.items (plan_of log i ++ planned_by (i + 1) n s (Some x) ∷ [])) at
+      stands = subst (λ (t : State). Stands t new.objects new.kept) (sym (state_next log i x is)) (c.in_ok-plan_call.ensures.stands s c.calls.invariant.stands);
+      shows = subst (λ (p : List Planned). Shows new.entries.items new.kept.tables p) (sym (plan_next log i x is))
+          (subst (λ (n : ℕ). Shows new.entries.items new.kept.tables (plan_of log i ++ planned_by (i + 1) n s (Some x) ∷ [])) at
           (c.in_ok-plan_call.ensures.shows s (plan_of log i) c.calls.invariant.stands c.calls.invariant.shows));
       place = place_next c.args.log.now.frames i f (sym c.in-Some.ensures.record) c.says_its_length.ensures c.calls.invariant.place;
     }

@@ -8,7 +8,7 @@ use Rattle.d3d_plan.proofs.make.plan_calls.Given as goal
 
 abbrev pub invariant-calls : goal.invariant-calls
 invariant-calls l = record {
-  stands : Stands (after_calls (calls_of l.log.frames) l.i) l.planner.objects l.planner.uses;
-  shows : Shows l.planner.entries.items l.planner.ranges.items (plan_of (calls_of l.log.frames) l.i);
+  stands : Stands (after_calls (calls_of l.log.frames) l.i) l.planner.objects l.planner.kept;
+  shows : Shows l.planner.entries.items l.planner.kept.tables (plan_of (calls_of l.log.frames) l.i);
   place : place_behind (calls_of l.log.frames) l.i ≡ start_behind l.log.frames l.i;
 }

@@ -7,7 +7,7 @@ use Rattle.histogram_log.proofs.Calls.{histogram_spelt}
 use Rattle.histogram_log.proofs.Logs.{calls_back}
 use Rattle.player.specs.Generated.{read_back}
 use Rattle.player.proofs.LastCall.{short_last}
-use Rattle.player.proofs.Playable.{playable, not_unsupported, not_unbuilt}
+use Rattle.player.proofs.Playable.{playable, not_unsupported}
 use Rattle.player.proofs.generate.last_sum.Goals as goal
 
 pub sum_of_words-requires : goal.sum_of_words-requires
@@ -22,9 +22,3 @@ unreachable-requires c =
     not_unsupported c.args.log.now.frames _ _ (subst IsPlayable (sym c.requires) (playable c.args.rounds))
     (subst (λ r. IfErr r (λ e. EndsAt c.args.log.now.frames e))
     (c.in-Err-Unsupported.is ∙ ap Err c.in-Err-Unsupported.field-0-is) c.make_plan.ensures.ends)
-
-pub unreachable-requires-in-Err-NotBuilt : goal.unreachable-requires-in-Err-NotBuilt
-unreachable-requires-in-Err-NotBuilt c =
-    not_unbuilt c.args.log.now.frames _ _ (subst IsPlayable (sym c.requires) (playable c.args.rounds))
-    (subst (λ r. IfErr r (λ e. EndsAt c.args.log.now.frames e))
-    (c.in-Err-NotBuilt.is ∙ ap Err c.in-Err-NotBuilt.field-0-is) c.make_plan.ensures.ends)

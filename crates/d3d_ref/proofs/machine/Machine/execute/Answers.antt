@@ -1,4 +1,4 @@
 use Rattle.d3d_ref.proofs.machine.Machine.execute.Goals as goal
 
 pub returns-clause-memory : goal.returns-clause-memory
-returns-clause-memory c = c.in_ok-accept.ensures.ok c.requires.accepted.unlisted c.args.n
+returns-clause-memory c = c.in_ok-act.ensures c.args.n
